@@ -1,4 +1,7 @@
+pub mod Cells
 pub mod Names
+pub mod Prog
 pub mod SessionName
+pub mod State
 pub mod Values
 pub mod Whole
