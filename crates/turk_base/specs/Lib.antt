@@ -1,4 +1,10 @@
+pub mod Cells
+pub mod Data
+pub mod DataFalls
 pub mod Names
+pub mod Node
+pub mod Prog
 pub mod SessionName
+pub mod State
 pub mod Values
 pub mod Whole
