@@ -1,8 +1,10 @@
 pub mod Cells
+pub mod Conversions
 pub mod Data
 pub mod DataFalls
 pub mod Names
 pub mod Node
+pub mod Operators
 pub mod Prog
 pub mod SessionName
 pub mod State
