@@ -1,5 +1,5 @@
 //! The calls of Whole.
-ghost use Rattle.std.specs.Prelude.{◌≡◌};
+ghost use Rattle.std.specs.Prelude.{◌≡◌, neg_ℤ};
 ghost use Rattle.turk_base.specs.Whole.{whole_or_none, IsWhole};
 
 use crate::Whole;
@@ -24,5 +24,13 @@ impl Whole {
         ensures range { IsWhole result }
     {
         self.number
+    }
+
+    /// The number with its sign turned; 0 stays 0.
+    pub fn negated(self) -> Whole
+        ensures { result ≡ neg_ℤ self }
+    {
+        let number = self.number;
+        Whole { number: -number }
     }
 }
