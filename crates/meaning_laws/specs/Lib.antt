@@ -1,0 +1,7 @@
+pub mod Objects
+pub mod Opens
+pub mod Operations
+pub mod Says
+pub mod Scopes
+pub mod Statements
+pub mod Words
