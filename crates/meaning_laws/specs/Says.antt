@@ -7,7 +7,7 @@ use Rattle.turk_base.specs.Names.{Units, path_in}
 use Rattle.turk_base.specs.Values.{Wait}
 use Rattle.turk_base.specs.State.{Verdict}
 use Rattle.turk_base.specs.Asks.{Rec, rec}
-use Rattle.js_tree.specs.World.{World, words}
+use Rattle.js_tree.specs.World.{words}
 use Rattle.js_tree.specs.Run.{Res}
 use Rattle.js_tree.specs.Report.{EndOfRun, end_of}
 use Rattle.js_tree.specs.Eval.{eval, meaning, world}

@@ -1,6 +1,6 @@
 -- Worked examples: once, fork, join, asks, records and the verdict. Where a script has runs one after the other, each run's
 -- trace is that of the run before with what that run made.
-use Rattle.std.specs.Prelude.{ℕ, ◌+◌, List, [], ◌∷◌, ◌++◌, pos, Some, None, codes}
+use Rattle.std.specs.Prelude.{◌+◌, List, [], ◌∷◌, ◌++◌, pos, codes}
 use Rattle.js_tree.specs.declared.Script.{Script}
 use Rattle.turk_base.specs.declared.Record.TheVariants as kept
 use Rattle.turk_base.specs.Names.{Units, root, cell, Slot, slot, shape, at, path_in}
@@ -49,20 +49,20 @@ OnceKept = Comes
 abbrev pub OnceThrows : Type 0
 OnceThrows = Comes
     (runs (script [] (
-        vars (set "n" (num 0) ∷ []) ∷
-        try_catch
-            (block (does (once (function 0 [] [] (does (assign (outer 1 "n") (num 1)) ∷ throw (num 2) ∷ []))) ∷ []))
-            "e" (block (does (print (outer 1 "n" ∷ here "e" ∷ [])) ∷ [])) ∷
-        [])) [] [] 2000)
+    vars (set "n" (num 0) ∷ []) ∷
+    try_catch
+    (block (does (once (function 0 [] [] (does (assign (outer 1 "n") (num 1)) ∷ throw (num 2) ∷ []))) ∷ []))
+    "e" (block (does (print (outer 1 "n" ∷ here "e" ∷ [])) ∷ [])) ∷
+    [])) [] [] 2000)
     Finished ("1 2" ∷ []) independent [] []
 
 -- var v = once(function () { return [1, {a: "x"}]; }); print(v.length, v[1].a);
 abbrev pub OnceData : Type 0
 OnceData = Comes
     (runs (script [] (
-        vars (set "v" (once (function 0 [] [] (returns (array (num 1 ∷ object (field "a" (text "x") ∷ []) ∷ [])) ∷ []))) ∷ []) ∷
-        does (print (dot (here "v") "length" ∷ dot (item (here "v") (num 1)) "a" ∷ [])) ∷
-        [])) [] [] 2000)
+    vars (set "v" (once (function 0 [] [] (returns (array (num 1 ∷ object (field "a" (text "x") ∷ []) ∷ [])) ∷ []))) ∷ []) ∷
+    does (print (dot (here "v") "length" ∷ dot (item (here "v") (num 1)) "a" ∷ [])) ∷
+    [])) [] [] 2000)
     Finished ("2 x" ∷ []) independent []
     (at_path (0 ∷ []) (kept.Once (DList (Item (DNumber (pos 1)) (Item (DFields (Field (codes "a") (DText (codes "x")) NoFields)) NoItems)))) ∷ [])
 
@@ -72,19 +72,19 @@ OnceData = Comes
 abbrev pub BranchWaits : Type 0
 BranchWaits = Comes
     (runs (script [] (
-        vars (set "x" (num 1) ∷ []) ∷
-        does (fork (function 0 [] [] (does (assign (outer 1 "x") (num 2)) ∷ does (prompt (text "a")) ∷ []))) ∷
-        does (print (here "x" ∷ [])) ∷
-        [])) [] [] 2000)
+    vars (set "x" (num 1) ∷ []) ∷
+    does (fork (function 0 [] [] (does (assign (outer 1 "x") (num 2)) ∷ does (prompt (text "a")) ∷ []))) ∷
+    does (print (here "x" ∷ [])) ∷
+    [])) [] [] 2000)
     Waiting ("1" ∷ []) independent (task (codes "s/0.0") ∷ []) (at_path (0 ∷ 0 ∷ []) (kept.Post (codes "a")) ∷ [])
 
 -- fork(function () { print("x"); crash(); }); print("y");
 abbrev pub BranchCrashes : Type 0
 BranchCrashes = Comes
     (runs (script [] (
-        does (fork (function 0 [] [] (does (print (text "x" ∷ [])) ∷ does crash ∷ []))) ∷
-        does (print (text "y" ∷ [])) ∷
-        [])) [] [] 2000)
+    does (fork (function 0 [] [] (does (print (text "x" ∷ [])) ∷ does crash ∷ []))) ∷
+    does (print (text "y" ∷ [])) ∷
+    [])) [] [] 2000)
     Waiting ("y" ∷ []) independent (crashed (path_in (0 ∷ [])) ∷ []) []
 
 -- fork(function () { fork(function () { prompt("a"); }); throw 1; }); print("after");
@@ -92,9 +92,9 @@ BranchCrashes = Comes
 abbrev pub ThrowWhileAbsent : Type 0
 ThrowWhileAbsent = Comes
     (runs (script [] (
-        does (fork (function 0 [] [] (does (fork (function 1 [] [] (does (prompt (text "a")) ∷ []))) ∷ throw (num 1) ∷ []))) ∷
-        does (print (text "after" ∷ [])) ∷
-        [])) [] [] 2000)
+    does (fork (function 0 [] [] (does (fork (function 1 [] [] (does (prompt (text "a")) ∷ []))) ∷ throw (num 1) ∷ []))) ∷
+    does (print (text "after" ∷ [])) ∷
+    [])) [] [] 2000)
     Waiting ("after" ∷ []) independent (task (codes "s/0.0.0") ∷ []) (at_path (0 ∷ 0 ∷ 0 ∷ []) (kept.Post (codes "a")) ∷ [])
 
 -- fork(function () { prompt("a"); }); throw 1;
@@ -149,59 +149,59 @@ ThenSecond = Comes (runs asking_two (first_answer ∷ second_answer ∷ []) (pos
 abbrev pub SeenOutside : Type 0
 SeenOutside = Comes
     (runs (script [] (
-        vars (set "x" (num 0) ∷ []) ∷
-        does (fork (function 0 [] [] (does (assign (outer 1 "x") (num 1)) ∷ []))) ∷
-        does (print (here "x" ∷ [])) ∷
-        does join ∷
-        [])) [] [] 2000)
+    vars (set "x" (num 0) ∷ []) ∷
+    does (fork (function 0 [] [] (does (assign (outer 1 "x") (num 1)) ∷ []))) ∷
+    does (print (here "x" ∷ [])) ∷
+    does join ∷
+    [])) [] [] 2000)
     Finished ("1" ∷ []) (touched_open (variable (codes "x"))) [] []
 
 -- var x = 0; fork(function () { x = 1; }); join(); print(x);
 abbrev pub SeenAfterJoin : Type 0
 SeenAfterJoin = Comes
     (runs (script [] (
-        vars (set "x" (num 0) ∷ []) ∷
-        does (fork (function 0 [] [] (does (assign (outer 1 "x") (num 1)) ∷ []))) ∷
-        does join ∷
-        does (print (here "x" ∷ [])) ∷
-        [])) [] [] 2000)
+    vars (set "x" (num 0) ∷ []) ∷
+    does (fork (function 0 [] [] (does (assign (outer 1 "x") (num 1)) ∷ []))) ∷
+    does join ∷
+    does (print (here "x" ∷ [])) ∷
+    [])) [] [] 2000)
     Finished ("1" ∷ []) independent [] []
 
 -- fork(function () { var y = 0; fork(function () { y = 1; }); join(); print(y); });
 abbrev pub SeenInBranch : Type 0
 SeenInBranch = Comes
     (runs (script [] (
-        does (fork (function 0 [] [] (
-            vars (set "y" (num 0) ∷ []) ∷
-            does (fork (function 1 [] [] (does (assign (outer 1 "y") (num 1)) ∷ []))) ∷
-            does join ∷
-            does (print (here "y" ∷ [])) ∷
-            []))) ∷
-        [])) [] [] 2000)
+    does (fork (function 0 [] [] (
+    vars (set "y" (num 0) ∷ []) ∷
+    does (fork (function 1 [] [] (does (assign (outer 1 "y") (num 1)) ∷ []))) ∷
+    does join ∷
+    does (print (here "y" ∷ [])) ∷
+    []))) ∷
+    [])) [] [] 2000)
     Finished ("1" ∷ []) independent [] []
 
 -- var r = []; fork(function () { r.push(1); }); fork(function () { r.push(2); }); join(); print(r.join());
 abbrev pub ShapeTouched : Type 0
 ShapeTouched = Comes
     (runs (script [] (
-        vars (set "r" (array []) ∷ []) ∷
-        does (fork (function 0 [] [] (does (call (dot (outer 1 "r") "push") (num 1 ∷ [])) ∷ []))) ∷
-        does (fork (function 1 [] [] (does (call (dot (outer 1 "r") "push") (num 2 ∷ [])) ∷ []))) ∷
-        does join ∷
-        does (print (call (dot (here "r") "join") [] ∷ [])) ∷
-        [])) [] [] 2000)
+    vars (set "r" (array []) ∷ []) ∷
+    does (fork (function 0 [] [] (does (call (dot (outer 1 "r") "push") (num 1 ∷ [])) ∷ []))) ∷
+    does (fork (function 1 [] [] (does (call (dot (outer 1 "r") "push") (num 2 ∷ [])) ∷ []))) ∷
+    does join ∷
+    does (print (call (dot (here "r") "join") [] ∷ [])) ∷
+    [])) [] [] 2000)
     Finished ("1,2" ∷ []) (touched_open (slot (cell root 8) shape)) [] []
 
 -- var x = 0; fork(function () { x = prompt("a"); }); var y = once(function () { return x; }); join(); print(y);
 abbrev pub OnceWhileOpen : Type 0
 OnceWhileOpen = Comes
     (runs (script [] (
-        vars (set "x" (num 0) ∷ []) ∷
-        does (fork (function 0 [] [] (does (assign (outer 1 "x") (prompt (text "a"))) ∷ []))) ∷
-        vars (set "y" (once (function 1 [] [] (returns (outer 1 "x") ∷ []))) ∷ []) ∷
-        does join ∷
-        does (print (here "y" ∷ [])) ∷
-        [])) ((codes "s/0.0", codes "5") ∷ []) [] 2000)
+    vars (set "x" (num 0) ∷ []) ∷
+    does (fork (function 0 [] [] (does (assign (outer 1 "x") (prompt (text "a"))) ∷ []))) ∷
+    vars (set "y" (once (function 1 [] [] (returns (outer 1 "x") ∷ []))) ∷ []) ∷
+    does join ∷
+    does (print (here "y" ∷ [])) ∷
+    [])) ((codes "s/0.0", codes "5") ∷ []) [] 2000)
     Finished ("5" ∷ []) (once_while_open (variable (codes "x"))) []
     (at_path (0 ∷ 0 ∷ []) (kept.Post (codes "a")) ∷ at_path (0 ∷ 1 ∷ []) (kept.Reply (codes "s/0.0") (codes "5")) ∷ at_path (1 ∷ []) (kept.Once (DText (codes "5"))) ∷ [])
 
@@ -209,11 +209,11 @@ OnceWhileOpen = Comes
 abbrev pub BranchThrew : Type 0
 BranchThrew = Comes
     (runs (script [] (
-        try_catch
-            (block (does (fork (function 0 [] [] (throw (new (standard "Error") (text "x" ∷ [])) ∷ []))) ∷ []))
-            "e" (block (does (print (plus (plus (dot (here "e") "name") (text " ")) (dot (here "e") "message") ∷ [])) ∷ [])) ∷
-        does (print (dot join "length" ∷ [])) ∷
-        [])) [] [] 2000)
+    try_catch
+    (block (does (fork (function 0 [] [] (throw (new (standard "Error") (text "x" ∷ [])) ∷ []))) ∷ []))
+    "e" (block (does (print (plus (plus (dot (here "e") "name") (text " ")) (dot (here "e") "message") ∷ [])) ∷ [])) ∷
+    does (print (dot join "length" ∷ [])) ∷
+    [])) [] [] 2000)
     Finished ("Error x" ∷ "0" ∷ []) (branch_threw (path_in (0 ∷ []))) [] []
 
 -- ---- records that do not fit

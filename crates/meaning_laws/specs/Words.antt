@@ -1,6 +1,6 @@
 -- Words to write scripts as trees that read like their texts.
 use package.Prim.Native.String.{String}
-use Rattle.std.specs.Prelude.{ℕ, Bool, false, true, List, [], ◌∷◌, map, pos, Option, Some, None, codes}
+use Rattle.std.specs.Prelude.{ℕ, Bool, false, true, List, map, pos, Option, Some, None, codes}
 use Rattle.js_tree.specs.declared.Binding.TheVariants as binding
 use Rattle.js_tree.specs.declared.Named.{Named}
 use Rattle.js_tree.specs.declared.Sign.TheVariants as sign

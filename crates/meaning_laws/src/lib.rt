@@ -6,6 +6,7 @@ ghost use Rattle.meaning_laws.specs.Operations.{OneAndTwo, Increments, LargestSu
 ghost use Rattle.meaning_laws.specs.Objects.{Closure, KeysAndTexts, PrototypeChain, ArrayLength, ConcatHoles, OwnName, ThisAndNew, Hoisting, KeyThenBase, CalleeOrder, MessageUnpaid, PlainThis, MethodsFound, DeletedKeys, TooLongIndex};
 ghost use Rattle.meaning_laws.specs.Statements.{FinallyReturns, Undeclared, FallThrough, BranchThrows, Loops, CatchFrame, OnceKeeps, WaitPasses, Replied, Crashes, Endless, DepthLimit, OnceNoData, NoForkInOnce, BranchesWait, JoinedValues, HundredTurns, ForInTarget};
 ghost use Rattle.meaning_laws.specs.Scopes.{OnceTakenBack, OnceAnswered, OnceKept, OnceThrows, OnceData, BranchWaits, BranchCrashes, ThrowWhileAbsent, ScriptThrowsWhileAbsent, BothWait, SecondAnswered, ThenFirst, FirstAnswered, ThenSecond, SeenOutside, SeenAfterJoin, SeenInBranch, ShapeTouched, OnceWhileOpen, BranchThrew, OtherKind, OtherText, RecordsBelow, RecordAtFork, ChoiceWaits, ChoiceDiverges, DrawsByWords, NotDrawn};
+ghost use Rattle.meaning_laws.specs.Laws.{AlwaysGoes, AnswersAlone, ForkTakesBack, FuelFalls, MadeIsNew, NoForkIndependent, OnceTakesBack, PathsBothWays, SequenceGoes};
 
 /// `print(1 + 2);`
 pub fn one_and_two()
@@ -349,4 +350,42 @@ pub fn choice_diverges()
 pub fn two_draws()
     ensures words { DrawsByWords }
     ensures undrawn { NotDrawn }
+{}
+
+/// The outcome of a tree depends on the state by the answers to its requests alone: where each request and each scope
+/// respects a link of two states, so does each tree.
+pub fn answers_alone()
+    ensures { AnswersAlone }
+{}
+
+/// What a sequence does: the first program, and then the other, given what comes after it.
+pub fn sequences()
+    ensures then { SequenceGoes }
+    ensures always { AlwaysGoes }
+{}
+
+/// The records that a run makes have distinct paths, and the trace has none of these.
+pub fn made_is_new()
+    ensures { MadeIsNew }
+{}
+
+/// No run has more fuel left than it was given.
+pub fn fuel_falls()
+    ensures { FuelFalls }
+{}
+
+/// A run in which no fork took its index is independent.
+pub fn no_fork_independent()
+    ensures { NoForkIndependent }
+{}
+
+/// What a once body did that gave a data, and what a branch did that waits, is taken back: the state is that of before.
+pub fn takes_back()
+    ensures once { OnceTakesBack }
+    ensures fork { ForkTakesBack }
+{}
+
+/// A path as a list of indexes, and back.
+pub fn paths_both_ways()
+    ensures { PathsBothWays }
 {}
