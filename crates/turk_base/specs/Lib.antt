@@ -14,5 +14,6 @@ pub mod Start
 pub mod State
 pub mod Steps
 pub mod Told
+pub mod Trace
 pub mod Values
 pub mod Whole
