@@ -4,6 +4,7 @@ pub mod Cells
 pub mod Conversions
 pub mod Data
 pub mod DataFalls
+pub mod Encodings
 pub mod Errors
 pub mod Names
 pub mod Node

@@ -13,6 +13,7 @@ use std::hash::{Hash, Hasher};
 use std::marker::Model;
 
 mod byte_lists;
+mod encodings;
 mod names;
 mod paths;
 mod records;
