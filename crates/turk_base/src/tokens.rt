@@ -11,7 +11,7 @@ pub fn token(alloc: Global, name: &Name, path: &Path) -> Result<Units, NoMemory>
     ensures { IfOk result (λ token. token ≡ token_of name.now path.now) }
 {
     let mut units = Units::new(alloc);
-    push_ascii(&mut units, name.as_slice())?;
+    units.push_bytes(name.as_slice())?;
     units.push(47)?;
     push_dotted(alloc, &mut units, path.as_slice())?;
     Ok(units)
@@ -43,16 +43,7 @@ fn push_decimal(alloc: Global, units: &mut Units, number: u32) -> Result<(), NoM
     ensures { IfOk result (λ _. units.new ≡ units.old ++ decimal number) }
 {
     match number.to_string(alloc) {
-        Ok(text) => push_ascii(units, text.as_bytes()),
+        Ok(text) => units.push_bytes(text.as_bytes()),
         Err(_) => Err(NoMemory),
     }
-}
-
-fn push_ascii(units: &mut Units, bytes: &[u8]) -> Result<(), NoMemory>
-    ensures { IfOk result (λ _. units.new ≡ units.old ++ bytes.now) }
-{
-    for byte in bytes {
-        units.push(*byte as u16)?;
-    }
-    Ok(())
 }
