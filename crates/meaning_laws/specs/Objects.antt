@@ -207,3 +207,18 @@ TooLongIndex = Does
     does (assign (item (here "a") (num 1000000)) (num 1)) ∷
     []))
     2000 [] (Refused TooLong) 1983 []
+
+-- function F() { } F.prototype = [7, 8]; var p = new F(); p.x = 1; var s = ""; for (var k in p) s += k; print(s, "length" in p, p.length);
+abbrev pub ArrayPrototype : Type 0
+ArrayPrototype = Does
+    (script (
+    declares "F" 0 [] [] [] ∷
+    []) (
+    does (assign (dot (here "F") "prototype") (array (num 7 ∷ num 8 ∷ []))) ∷
+    vars (set "p" (new (here "F") []) ∷ []) ∷
+    does (assign (dot (here "p") "x") (num 1)) ∷
+    vars (set "s" (text "") ∷ []) ∷
+    for_in (each_var "k") (here "p") (does (assign_by op.Add (here "s") (here "k"))) ∷
+    does (print (here "s" ∷ is_in (text "length") (here "p") ∷ dot (here "p") "length" ∷ [])) ∷
+    []))
+    2000 [] Finished 1931 ("x01 true 2" ∷ [])

@@ -3,7 +3,7 @@
 #![tactic(auto)]
 
 ghost use Rattle.meaning_laws.specs.Operations.{OneAndTwo, Increments, LargestSum, TooLargeSum, ExactQuotient, NoQuotient, BitsAndRemainder, FuelEnough, FuelShort, Texts, Equality, Updates, PrintedObject, SumRefusedFirst, LineOrder, CompoundOrder, TypeofUndeclared, Errors, AssignmentValue};
-ghost use Rattle.meaning_laws.specs.Objects.{Closure, KeysAndTexts, PrototypeChain, ArrayLength, ConcatHoles, OwnName, ThisAndNew, Hoisting, KeyThenBase, CalleeOrder, MessageUnpaid, PlainThis, MethodsFound, DeletedKeys, TooLongIndex};
+ghost use Rattle.meaning_laws.specs.Objects.{ArrayPrototype, Closure, KeysAndTexts, PrototypeChain, ArrayLength, ConcatHoles, OwnName, ThisAndNew, Hoisting, KeyThenBase, CalleeOrder, MessageUnpaid, PlainThis, MethodsFound, DeletedKeys, TooLongIndex};
 ghost use Rattle.meaning_laws.specs.Statements.{FinallyReturns, Undeclared, FallThrough, BranchThrows, Loops, CatchFrame, OnceKeeps, WaitPasses, Replied, Crashes, Endless, DepthLimit, OnceNoData, NoForkInOnce, BranchesWait, JoinedValues, HundredTurns, ForInTarget};
 ghost use Rattle.meaning_laws.specs.Scopes.{OnceTakenBack, OnceAnswered, OnceKept, OnceThrows, OnceData, BranchWaits, BranchCrashes, ThrowWhileAbsent, ScriptThrowsWhileAbsent, BothWait, SecondAnswered, ThenFirst, FirstAnswered, ThenSecond, SeenOutside, SeenAfterJoin, SeenInBranch, ShapeTouched, OnceWhileOpen, BranchThrew, OtherKind, OtherText, RecordsBelow, RecordAtFork, ChoiceWaits, ChoiceDiverges, DrawsByWords, NotDrawn};
 ghost use Rattle.meaning_laws.specs.Laws.{AlwaysGoes, AnswersAlone, ForkTakesBack, FuelFalls, MadeIsNew, NoForkIndependent, OnceTakesBack, PathsBothWays, SequenceGoes};
@@ -350,6 +350,11 @@ pub fn choice_diverges()
 pub fn two_draws()
     ensures words { DrawsByWords }
     ensures undrawn { NotDrawn }
+{}
+
+/// `function F() { } F.prototype = [7, 8]; var p = new F(); p.x = 1; var s = ""; for (var k in p) s += k; print(s, "length" in p, p.length);`
+pub fn array_prototype()
+    ensures { ArrayPrototype }
 {}
 
 /// The outcome of a tree depends on the state by the answers to its requests alone: where each request and each scope
