@@ -42,11 +42,7 @@ pub trait Source {
 
 /// Reads all bytes that are left, at most `limit` of them. After a refusal an unknown front of them
 /// was taken from the source.
-pub fn read_all<S: Source>(
-    alloc: Global,
-    source: &mut S,
-    limit: u64,
-) -> Result<Vec<u8>, ReadStop>
+pub fn read_all<S: Source>(alloc: Global, source: &mut S, limit: u64) -> Result<Vec<u8>, ReadStop>
     ensures count { S.faults source.old ≤ S.faults source.new }
     ensures all { IfOk result (λ v. Consumes (S.left source.old) (S.left source.new) v.items) }
     ensures end { OnOk result (IsAtEnd (S.left source.new)) }
