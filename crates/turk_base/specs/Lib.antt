@@ -1,0 +1,4 @@
+pub mod Names
+pub mod SessionName
+pub mod Values
+pub mod Whole
