@@ -1,2 +1,3 @@
-pub mod Lists
 mod Kept
+pub mod Lists
+pub mod Turns

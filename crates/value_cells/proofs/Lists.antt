@@ -117,12 +117,12 @@ module _ (cs : List Cell) (c : Cell) (whole : IsWhole cs) (kind : kind_needs c.k
   long : length (cs ++ c ∷ []) ≡ suc (length cs)
   long = length-append cs (c ∷ []) ∙ omega arith
 
-
   apart : (i j : ℕ) (n : CellName) → slice_get (names_of cs ++ c.name ∷ []) i ≡ Some n → slice_get (names_of cs ++ c.name ∷ []) j ≡ Some n → i ≡ j
   apart i j n e f = pushed (λ i n. slice_get (names_of cs ++ c.name ∷ []) j ≡ Some n → i ≡ j) (names_of cs) c.name old new i n e f
     where
       old : (i : ℕ) (n : CellName) → slice_get (names_of cs) i ≡ Some n → slice_get (names_of cs ++ c.name ∷ []) j ≡ Some n → i ≡ j
       old i n e f = pushed (λ j m. m ≡ n → i ≡ j) (names_of cs) c.name (λ j m g h. whole.distinct i j n e (g ∙ ap Some h)) (λ h. absurd (fresh i (e ∙ ap Some (sym h)))) j n f refl
+
       new : slice_get (names_of cs ++ c.name ∷ []) j ≡ Some c.name → length (names_of cs) ≡ j
       new f = pushed (λ j m. m ≡ c.name → length (names_of cs) ≡ j) (names_of cs) c.name (λ j m g h. absurd (fresh j (g ∙ ap Some h))) (λ h. refl) j c.name f refl
 

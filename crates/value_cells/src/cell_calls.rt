@@ -1,15 +1,15 @@
 //! The calls of Cells.
-use crate::{CellData, CellKind, CellName, Cells, Mark, Value};
-use object_props::Props;
-use std::alloc::Global;
-use turk_base::{NoMemory, Units};
-
 ghost use Rattle.std.specs.Prelude.{ℕ, IsOk, ◌≡◌, ◌<◌, ◌≤◌, ◌∷◌, ◌++◌, [], List, IfOk, OnOk, OnErr, length, IsSome, IfSome, Some, None, slice_get};
 ghost use Rattle.std.specs.Option.{option_copied};
 ghost use Rattle.std.specs.List.{IsDistinct};
 ghost use Rattle.std.specs.Map.{set_value, remove_entry, keys_of};
 ghost use Rattle.value_cells.specs.Needs.{needs, kind_needs};
 ghost use Rattle.value_cells.specs.Held.{Cell, count, names_of, kinds_of, props_at, own, key_eq, with_props, IsWhole};
+
+use crate::{CellData, CellKind, CellName, Cells, Mark, Value};
+use object_props::Props;
+use std::alloc::Global;
+use turk_base::{NoMemory, Units};
 
 impl Cells {
     /// No cells, and no open mark. What is added later is kept in memory of `alloc`.
@@ -220,10 +220,7 @@ fn copy_cells(alloc: Global, cells: &[CellData]) -> Result<Vec<CellData>, NoMemo
 }
 
 /// Equal properties.
-fn copy_props(
-    alloc: Global,
-    props: &Props<Units, Value>,
-) -> Result<Props<Units, Value>, NoMemory>
+fn copy_props(alloc: Global, props: &Props<Units, Value>) -> Result<Props<Units, Value>, NoMemory>
     ensures { IfOk result (λ copy. copy ≡ props.now) }
 {
     let mut copy = Props::new(alloc);

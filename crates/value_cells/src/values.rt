@@ -1,9 +1,9 @@
-//! Copies of values and names.
-use crate::{CellName, Value};
+//! Copies of values and names, and want of memory as a stop.
+ghost use Rattle.std.specs.Prelude.{◌≡◌, IfOk};
+
+use crate::{CellName, OpStop, Value};
 use std::alloc::Global;
 use turk_base::NoMemory;
-
-ghost use Rattle.std.specs.Prelude.{◌≡◌, IfOk};
 
 impl Value {
     /// An equal value.
@@ -30,5 +30,16 @@ impl CellName {
             scope: self.scope.copy(alloc)?,
             number: self.number,
         })
+    }
+}
+
+impl From<NoMemory> for OpStop {
+    ghost use Rattle.std.specs.Prelude.{◌≡◌};
+    ghost use Rattle.value_cells.specs.declared.OpStop.TheVariants as stop;
+
+    ghost from_gives = { λ _ e. e ≡ stop.Memory };
+
+    fn from(_want: NoMemory) -> OpStop {
+        OpStop::Memory
     }
 }
