@@ -1,17 +1,15 @@
 -- What a call of Cells needs, over the fields and what a contract sees of them.
-use Rattle.std.proofs.Common.{◌≡◌, ◌∙◌, subst, ap, refl, sym, ℕ, suc, ◌≤◌, ◌<◌, Bool, List, [], ◌∷◌, ◌++◌, length, set, map, get_or, Option, Some, None, slice_get, arith, option_map, option_copied, IfSome, length-append, Vec}
+use Rattle.std.proofs.Common.{◌≡◌, ◌∙◌, subst, ap, refl, sym, ℕ, ◌≤◌, ◌<◌, List, [], ◌∷◌, ◌++◌, length, set, map, get_or, Option, Some, None, slice_get, arith, option_map, option_copied, IfSome, Vec}
 use Rattle.std.specs.Borrow.{Bor}
 use Rattle.std.specs.declared.alloc.Global.{Global}
 use Rattle.std.proofs.lemmas.Option.{slice_get-map, slice_get_read}
 use Rattle.std.proofs.lemmas.List.{map-set, map-append, length-map, set-get_or}
 use Rattle.std.specs.Map.{lookup, set_value, remove_entry}
 use Rattle.value_cells.specs.declared.Value.{Value}
-use Rattle.value_cells.specs.declared.CellKind.{CellKind}
-use Rattle.value_cells.specs.declared.CellName.{CellName}
 use Rattle.value_cells.specs.declared.CellData.{CellData}
 use Rattle.value_cells.specs.declared.Cells.TheInside.{Inside}
 use Rattle.value_cells.specs.Needs.{needs, kind_needs, props_needs}
-use Rattle.value_cells.specs.Held.{Cell, Held, Props, Key, key_eq, count, names_of, kinds_of, props_in, props_at, own, with_props, IsWhole}
+use Rattle.value_cells.specs.Held.{Cell, Held, Props, Key, key_eq, count, names_of, kinds_of, props_in, props_at, with_props, IsWhole}
 use Rattle.value_cells.specs.Stored.{cell_of, stored, held, IsGood}
 use Rattle.value_cells.proofs.Lists.{whole-pushed, get_last, get_front, lookup-needs, set-needs, push-needs, remove-needs, set-with, whole-with}
 

@@ -1,11 +1,10 @@
 -- Lists by place, what properties need, and lists of cells of which one is changed.
-use Rattle.std.proofs.Common.{◌≡◌, ◌∙◌, subst, ap, refl, sym, ℕ, zero, suc, ◌+◌, ◌≤◌, ◌<◌, max, Bool, true, false, cond, List, [], ◌∷◌, ◌++◌, length, set, map, Option, Some, None, slice_get, arith, take, insert, length-append}
+use Rattle.std.proofs.Common.{◌≡◌, ◌∙◌, subst, ap, refl, sym, ℕ, zero, suc, ◌+◌, ◌≤◌, ◌<◌, max, Bool, true, false, cond, List, [], ◌∷◌, ◌++◌, length, set, Some, slice_get, arith, take, insert, length-append}
 use Rattle.std.proofs.Math.Seq.{drop-length, take-length}
 use Rattle.std.proofs.lemmas.Option.{slice_get_within, get_or_from_slice_get}
 use Rattle.std.proofs.lemmas.List.{take_more, length-take-le, map-append, length-map}
 use Rattle.std.specs.Map.{lookup, set_value, remove_entry}
 use Rattle.value_cells.specs.declared.Value.{Value}
-use Rattle.value_cells.specs.declared.CellKind.{CellKind}
 use Rattle.value_cells.specs.declared.CellName.{CellName}
 use Rattle.value_cells.specs.Needs.{needs, kind_needs, props_needs}
 use Rattle.value_cells.specs.Held.{Cell, Props, Key, names_of, kinds_of, with_props, IsWhole}

@@ -2,17 +2,17 @@
 -- the run.
 use Rattle.std.proofs.lemmas.Option.{slice_get_within, slice_get-get_or}
 use Rattle.std.proofs.lemmas.Bool.Decides.{nat_tests}
-use Rattle.std.proofs.Common.{◌≡◌, ◌∙◌, subst, refl, sym, ap, ℕ, suc, ◌≤◌, ◌<◌, Bool, true, false, nat_lt, List, [], ◌∷◌, length, get_or, Some, slice_get, arith}
-use Rattle.turk_base.specs.Names.{Name, Path, Under, home}
+use Rattle.std.proofs.Common.{◌≡◌, ◌∙◌, subst, refl, sym, ap, ℕ, ◌≤◌, ◌<◌, Bool, true, false, nat_lt, List, [], ◌∷◌, length, get_or, Some, slice_get, arith}
+use Rattle.turk_base.specs.Names.{Name, Under, home}
 use Rattle.turk_base.specs.Values.{Refusal, Outcome}
 use Rattle.turk_base.specs.State.{St}
 use Rattle.turk_base.specs.Steps.{steps_of}
 use Rattle.turk_base.specs.Prog.{Prim, AnswerOf, Prog, Done, Ask, refuse}
 use Rattle.value_cells.specs.declared.OpStop.{OpStop}
 use Rattle.value_cells.specs.declared.OpStop.TheVariants.{NotWhole, NoPrimitive, TooLong, Spent, Memory}
-use Rattle.value_cells.specs.Seen.{Naming, Seen, Scope, Fits, Grows, count}
-use Rattle.value_cells.specs.Comes.{Comes, goes, stops, spends, then_goes, comes, ends}
-use Rattle.value_cells.specs.Does.{Told, Says, Refuses, Spends, Fails, told_stop, Did, Stays, comes_from, ends_from, Does, Runs, Onward}
+use Rattle.value_cells.specs.Seen.{Naming, Seen, Fits, Grows, count}
+use Rattle.value_cells.specs.Comes.{Comes, goes, then_goes, comes, ends}
+use Rattle.value_cells.specs.Does.{Says, Refuses, Fails, told_stop, Did, Stays, comes_from, ends_from, Does, Runs, Onward}
 
 pub fits_before : (nu : Naming) (old new : List Name) → Grows old new → Fits nu new → Fits nu old
 fits_before nu old new g f = record { agrees = λ i n e. f.agrees i n (g i n e) }

@@ -1,5 +1,5 @@
 -- What steps and programs that ask nothing of the outside come to, from a state and the fuel left.
-use Rattle.std.specs.Prelude.{◌≡◌, ◌-◌, ℕ, nat_lt, Bool, true, false, if◌then◌else◌}
+use Rattle.std.specs.Prelude.{◌-◌, ℕ, nat_lt, Bool, true, false}
 use Rattle.turk_base.specs.Names.{Path}
 use Rattle.turk_base.specs.Values.{Refusal, Outcome}
 use Rattle.turk_base.specs.State.{St, Act, gives, refused, waiting, stuck, act, op_cost}

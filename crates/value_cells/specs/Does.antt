@@ -1,5 +1,5 @@
 -- What a call on a heap did, as the definitions of a run's meaning say it.
-use Rattle.std.specs.Prelude.{◌≡◌, ◌≤◌, ℕ, List, length, Some, slice_get, Result, Ok, Err}
+use Rattle.std.specs.Prelude.{◌≡◌, ◌≤◌, ℕ, Some, slice_get, Result, Ok, Err}
 use Rattle.turk_base.specs.Names.{Name, Under, home}
 use Rattle.turk_base.specs.Values as model
 use Rattle.turk_base.specs.Values.{Refusal, Outcome}
@@ -8,8 +8,8 @@ use Rattle.turk_base.specs.Steps.{Small, steps_of}
 use Rattle.turk_base.specs.Prog.{Prim, AnswerOf, Prog}
 use Rattle.value_cells.specs.declared.OpStop.{OpStop}
 use Rattle.value_cells.specs.declared.OpStop.TheVariants.{NotWhole, NoPrimitive, TooLong, Spent, Memory}
-use Rattle.value_cells.specs.Seen.{Naming, Seen, Scope, Fits, Grows, count}
-use Rattle.value_cells.specs.Comes.{Comes, goes, stops, spends, other, comes, ends}
+use Rattle.value_cells.specs.Seen.{Naming, Seen, Fits, Grows, count}
+use Rattle.value_cells.specs.Comes.{Comes, goes, stops, spends, comes, ends}
 
 -- what a call says: a value, a refusal, that the fuel is spent, or want of memory
 pub data Told (A : Type 0) : Type 0 where

@@ -1,5 +1,5 @@
 -- How a heap is seen, and what the numbers of its cells stand for under a naming of them.
-use Rattle.std.specs.Prelude.{◌≡◌, ◌≤◌, ℕ, Bool, List, length, Option, Some, None, slice_get}
+use Rattle.std.specs.Prelude.{◌≡◌, ℕ, Bool, List, length, Some, slice_get}
 use Rattle.std.specs.Option.{option_map}
 use Rattle.turk_base.specs.Names.{Path, path_in, Name, cell}
 use Rattle.turk_base.specs.Values as model

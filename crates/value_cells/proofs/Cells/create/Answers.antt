@@ -1,4 +1,4 @@
-use Rattle.std.proofs.Common.{sym, ap, ◌∙◌, subst, set, ◌≡◌, None}
+use Rattle.std.proofs.Common.{sym, ap, ◌∙◌, subst, set}
 use Rattle.std.specs.Map.{lookup}
 use Rattle.value_cells.specs.Held.{IsWhole, key_eq}
 use Rattle.value_cells.specs.Stored.{stored}

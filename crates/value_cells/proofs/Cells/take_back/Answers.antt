@@ -1,5 +1,4 @@
-use Rattle.std.proofs.Common.{sym, ap, ◌∙◌, map, ◌∷◌, []}
-use Rattle.value_cells.specs.Stored.{stored}
+use Rattle.std.proofs.Common.{◌∷◌, []}
 use Rattle.value_cells.proofs.Kept.{last-mark, first-marks}
 use Rattle.value_cells.proofs.Cells.take_back.Goals as goal
 
