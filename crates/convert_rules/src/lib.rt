@@ -5,6 +5,8 @@ mod conversions;
 mod kinds;
 mod literals;
 mod operators;
+#[cfg(test)]
+mod tests;
 
 pub use conversions::{reading, text, truth};
 pub use kinds::{Prim, Reading};

@@ -18,6 +18,8 @@ mod names;
 mod paths;
 mod records;
 mod reply_lists;
+#[cfg(test)]
+mod tests;
 mod texts;
 mod tokens;
 mod trees;

@@ -2,6 +2,8 @@
 #![tactic(auto)]
 
 pub mod bits;
+#[cfg(test)]
+mod tests;
 
 ghost use Rattle.std.specs.Prelude.{◌≡◌, neg_ℤ};
 ghost use Rattle.turk_base.specs.Operators.{total, difference, product, quotient, remainder};
