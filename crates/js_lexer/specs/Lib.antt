@@ -1,0 +1,4 @@
+pub mod Chars
+pub mod Marks
+pub mod Pieces
+pub mod Words
