@@ -18,5 +18,6 @@ same xs ys n h = sym ((bytes_eq-Decides xs ys).1 (ext_get_or 0 xs ys n h))
 -- a character other than NUL stands within the text
 pub stands_within : (text : List ℕ) (k c : ℕ) → get_or text k 0 ≡ c → 0 < c → k < length text
 stands_within text k c e some = elim (leb_tells (length text) k) [
-    inl t ↦ (let f : c ≡ 0 = sym e ∙ get_or_past text k 0 t.1 in absurd (omega arith))
-  | inr t ↦ t.1 ]
+  | inl t ↦ (let f : c ≡ 0 = sym e ∙ get_or_past text k 0 t.1 in absurd (omega arith))
+  | inr t ↦ t.1
+]

@@ -11,44 +11,49 @@ use Rattle.js_lexer.specs.declared.Mark.{Mark}
 -- ---- a character that passes a test is one of the few that do
 
 pick : (P : ℕ → Type 0) (c v : ℕ) {rest : Bool} → ((c == v) || rest) ≡ true → P v → (rest ≡ true → P c) → P c
-pick P c v e here k = elim (eqb_tells c v) [
-    inl t ↦ subst P (sym t.1) here
-  | inr t ↦ k (sym (ap (λ b. b || _) t.0) ∙ e) ]
+pick P c v {rest} e here k = elim (eqb_tells c v) [
+  | inl t ↦ subst P (sym t.1) here
+  | inr t ↦ k (sym (ap (λ b. b || rest) t.0) ∙ e)
+]
 
-pick_some : (P : ℕ → Type 0) (c v : ℕ) {A : Type 0} {x rest : Option A} {y : A} → cond (c == v) x rest ≡ Some y → P v → (rest ≡ Some y → P c) → P c
-pick_some P c v {x = x} {rest} e here k = elim (eqb_tells c v) [
-    inl t ↦ subst P (sym t.1) here
-  | inr t ↦ k (sym (ap (λ b. cond b x rest) t.0) ∙ e) ]
+pick_some : (P : ℕ → Type 0) (c v : ℕ) {A : Type 0} (x rest : Option A) {y : A} → cond (c == v) x rest ≡ Some y → P v → (rest ≡ Some y → P c) → P c
+pick_some P c v x rest e here k = elim (eqb_tells c v) [
+  | inl t ↦ subst P (sym t.1) here
+  | inr t ↦ k (sym (ap (λ b. cond b x rest) t.0) ∙ e)
+]
 
 last : (P : ℕ → Type 0) (c v : ℕ) → (c == v) ≡ true → P v → P c
 last P c v e here = elim (eqb_tells c v) [
-    inl t ↦ subst P (sym t.1) here
-  | inr t ↦ absurd (grind arith) ]
+  | inl t ↦ subst P (sym t.1) here
+  | inr t ↦ absurd (grind arith)
+]
 
 -- the test holds of so many numbers from one on
 abbrev all_from : (ℕ → Bool) → ℕ → ℕ → Bool
 all_from f low zero = true
 all_from f low (suc n) = f low && all_from f (suc low) n
 
-both : {a b : Bool} → (a && b) ≡ true → (a ≡ true) × (b ≡ true)
-both {true} {true} e = (refl, refl)
-both {true} {false} e = (refl, e)
-both {false} {b} e = (e, absurd (grind arith))
+both : (a b : Bool) → (a && b) ≡ true → (a ≡ true) × (b ≡ true)
+both true b e = (refl, e)
+both false b e = absurd (clash e refl)
 
 each_from : (f : ℕ → Bool) (low n c : ℕ) → all_from f low n ≡ true → low ≤ c → c < low + n → f c ≡ true
 each_from f low zero c e a b = absurd (omega arith)
 each_from f low (suc n) c e a b =
-    let h = both e in
+    let h = both (f low) (all_from f (suc low) n) e in
     elim (eqb_tells c low) [
-      inl t ↦ subst (λ x. f x ≡ true) (sym t.1) h.0
-    | inr t ↦ each_from f (suc low) n c h.1 (let ne = t.1 in omega arith) (omega arith) ]
+      | inl t ↦ subst (λ x. f x ≡ true) (sym t.1) h.0
+      | inr t ↦ each_from f (suc low) n c h.1 (let ne = t.1 in omega arith) (omega arith)
+    ]
 
 pick_range : (P : ℕ → Type 0) (c : ℕ) (f : ℕ → Bool) (low n : ℕ) {rest : Bool} → ((nat_le low c && nat_le c (low + n - 1)) || rest) ≡ true → all_from f low n ≡ true → 0 < n → (f c ≡ true → P c) → (rest ≡ true → P c) → P c
 pick_range P c f low n {rest} e all some here k = elim (leb_tells low c) [
-    inr t ↦ k (sym (ap (λ b. (b && nat_le c (low + n - 1)) || rest) t.0) ∙ e)
+  | inr t ↦ k (sym (ap (λ b. (b && nat_le c (low + n - 1)) || rest) t.0) ∙ e)
   | inl t ↦ elim (leb_tells c (low + n - 1)) [
-      inr u ↦ k (sym (ap (λ b. b || rest) (ap (λ b. b && nat_le c (low + n - 1)) t.0 ∙ u.0)) ∙ e)
-    | inl u ↦ here (each_from f low n c all t.1 (let h = u.1 in omega arith)) ] ]
+    | inr u ↦ k (sym (ap (λ b. b || rest) (ap (λ b. b && nat_le c (low + n - 1)) t.0 ∙ u.0)) ∙ e)
+    | inl u ↦ here (each_from f low n c all t.1 (let h = u.1 in omega arith))
+  ]
+]
 
 no_some : {A : Type 0} {x : A} → None ≡ Some x → ⊥
 no_some e = cc
@@ -81,20 +86,18 @@ sort-slash c e = subst (λ x. sort x ≡ 6) (sym e) refl
 
 pub sort-single : (c : ℕ) {m : Mark} → single c ≡ Some m → 6 ≤ sort c
 unfolding single
-sort-single c e = let P : ℕ → Type 0 = λ x. 6 ≤ sort x in pick_some P c 123 e (lit≤ tt) (λ e. pick_some P c 125 e (lit≤ tt) (λ e. pick_some P c 40 e (lit≤ tt) (λ e. pick_some P c 41 e (lit≤ tt) (λ e. pick_some P c 91 e (lit≤ tt) (λ e. pick_some P c 93 e (lit≤ tt) (λ e. pick_some P c 46 e (lit≤ tt) (λ e. pick_some P c 59 e (lit≤ tt) (λ e. pick_some P c 44 e (lit≤ tt) (λ e. pick_some P c 60 e (lit≤ tt) (λ e. pick_some P c 62 e (lit≤ tt) (λ e. pick_some P c 61 e (lit≤ tt) (λ e. pick_some P c 33 e (lit≤ tt) (λ e. pick_some P c 43 e (lit≤ tt) (λ e. pick_some P c 45 e (lit≤ tt) (λ e. pick_some P c 42 e (lit≤ tt) (λ e. pick_some P c 37 e (lit≤ tt) (λ e. pick_some P c 38 e (lit≤ tt) (λ e. pick_some P c 124 e (lit≤ tt) (λ e. pick_some P c 94 e (lit≤ tt) (λ e. pick_some P c 126 e (lit≤ tt) (λ e. pick_some P c 63 e (lit≤ tt) (λ e. pick_some P c 58 e (lit≤ tt) (λ e. pick_some P c 47 e (lit≤ tt) (λ e. absurd (no_some e)))))))))))))))))))))))))
+sort-single c e = let P : ℕ → Type 0 = λ x. 6 ≤ sort x in pick_some P c 123 _ _ e (lit≤ tt) (λ e. pick_some P c 125 _ _ e (lit≤ tt) (λ e. pick_some P c 40 _ _ e (lit≤ tt) (λ e. pick_some P c 41 _ _ e (lit≤ tt) (λ e. pick_some P c 91 _ _ e (lit≤ tt) (λ e. pick_some P c 93 _ _ e (lit≤ tt) (λ e. pick_some P c 46 _ _ e (lit≤ tt) (λ e. pick_some P c 59 _ _ e (lit≤ tt) (λ e. pick_some P c 44 _ _ e (lit≤ tt) (λ e. pick_some P c 60 _ _ e (lit≤ tt) (λ e. pick_some P c 62 _ _ e (lit≤ tt) (λ e. pick_some P c 61 _ _ e (lit≤ tt) (λ e. pick_some P c 33 _ _ e (lit≤ tt) (λ e. pick_some P c 43 _ _ e (lit≤ tt) (λ e. pick_some P c 45 _ _ e (lit≤ tt) (λ e. pick_some P c 42 _ _ e (lit≤ tt) (λ e. pick_some P c 37 _ _ e (lit≤ tt) (λ e. pick_some P c 38 _ _ e (lit≤ tt) (λ e. pick_some P c 124 _ _ e (lit≤ tt) (λ e. pick_some P c 94 _ _ e (lit≤ tt) (λ e. pick_some P c 126 _ _ e (lit≤ tt) (λ e. pick_some P c 63 _ _ e (lit≤ tt) (λ e. pick_some P c 58 _ _ e (lit≤ tt) (λ e. pick_some P c 47 _ _ e (lit≤ tt) (λ e. absurd (no_some e)))))))))))))))))))))))))
 
 -- ---- what begins an identifier begins nothing else
+
+flip : (b : Bool) → not b ≡ true → b ≡ false
+flip true e = sym e
+flip false e = refl
 
 white_starts : (c : ℕ) → is_white c ≡ true → starts c ≡ false
 unfolding unicode_ident
 white_starts c e = let P : ℕ → Type 0 = λ x. starts x ≡ false in
-    pick P c 9 e refl (λ e. pick P c 11 e refl (λ e. pick P c 12 e refl (λ e. pick P c 32 e refl (λ e. pick P c 160 e refl (λ e. pick P c 5760 e refl (λ e. pick_range P c (λ x. not (starts x)) 0x2000 11 e refl (omega arith) (not_false c) (λ e. pick P c 0x202F e refl (λ e. pick P c 0x205F e refl (λ e. last P c 0x3000 e refl)))))))))
-  where
-    not_false : (c : ℕ) → not (starts c) ≡ true → starts c ≡ false
-    not_false c e = flip (starts c) e
-    flip : (b : Bool) → not b ≡ true → b ≡ false
-    flip true e = sym e
-    flip false e = refl
+    pick P c 9 e refl (λ e. pick P c 11 e refl (λ e. pick P c 12 e refl (λ e. pick P c 32 e refl (λ e. pick P c 160 e refl (λ e. pick P c 5760 e refl (λ e. pick_range P c (λ x. not (starts x)) 0x2000 11 e refl (omega arith) (flip (starts c)) (λ e. pick P c 0x202F e refl (λ e. pick P c 0x205F e refl (λ e. last P c 0x3000 e refl)))))))))
 
 line_starts : (c : ℕ) → is_line_end c ≡ true → starts c ≡ false
 unfolding unicode_ident
@@ -103,10 +106,6 @@ line_starts c e = let P : ℕ → Type 0 = λ x. starts x ≡ false in pick P c 
 digit_starts : (c : ℕ) → is_digit 10 c ≡ true → starts c ≡ false
 unfolding unicode_ident
 digit_starts c e = flip (starts c) (digit_from (λ x. not (starts x)) c refl e)
-  where
-    flip : (b : Bool) → not b ≡ true → b ≡ false
-    flip true e = sym e
-    flip false e = refl
 
 quote_starts : (c : ℕ) → is_quote c ≡ true → starts c ≡ false
 unfolding unicode_ident
@@ -114,15 +113,19 @@ quote_starts c e = let P : ℕ → Type 0 = λ x. starts x ≡ false in pick P c
 
 single_starts : (c : ℕ) {m : Mark} → single c ≡ Some m → starts c ≡ false
 unfolding single unicode_ident
-single_starts c e = let P : ℕ → Type 0 = λ x. starts x ≡ false in pick_some P c 123 e refl (λ e. pick_some P c 125 e refl (λ e. pick_some P c 40 e refl (λ e. pick_some P c 41 e refl (λ e. pick_some P c 91 e refl (λ e. pick_some P c 93 e refl (λ e. pick_some P c 46 e refl (λ e. pick_some P c 59 e refl (λ e. pick_some P c 44 e refl (λ e. pick_some P c 60 e refl (λ e. pick_some P c 62 e refl (λ e. pick_some P c 61 e refl (λ e. pick_some P c 33 e refl (λ e. pick_some P c 43 e refl (λ e. pick_some P c 45 e refl (λ e. pick_some P c 42 e refl (λ e. pick_some P c 37 e refl (λ e. pick_some P c 38 e refl (λ e. pick_some P c 124 e refl (λ e. pick_some P c 94 e refl (λ e. pick_some P c 126 e refl (λ e. pick_some P c 63 e refl (λ e. pick_some P c 58 e refl (λ e. pick_some P c 47 e refl (λ e. absurd (no_some e)))))))))))))))))))))))))
+single_starts c e = let P : ℕ → Type 0 = λ x. starts x ≡ false in pick_some P c 123 _ _ e refl (λ e. pick_some P c 125 _ _ e refl (λ e. pick_some P c 40 _ _ e refl (λ e. pick_some P c 41 _ _ e refl (λ e. pick_some P c 91 _ _ e refl (λ e. pick_some P c 93 _ _ e refl (λ e. pick_some P c 46 _ _ e refl (λ e. pick_some P c 59 _ _ e refl (λ e. pick_some P c 44 _ _ e refl (λ e. pick_some P c 60 _ _ e refl (λ e. pick_some P c 62 _ _ e refl (λ e. pick_some P c 61 _ _ e refl (λ e. pick_some P c 33 _ _ e refl (λ e. pick_some P c 43 _ _ e refl (λ e. pick_some P c 45 _ _ e refl (λ e. pick_some P c 42 _ _ e refl (λ e. pick_some P c 37 _ _ e refl (λ e. pick_some P c 38 _ _ e refl (λ e. pick_some P c 124 _ _ e refl (λ e. pick_some P c 94 _ _ e refl (λ e. pick_some P c 126 _ _ e refl (λ e. pick_some P c 63 _ _ e refl (λ e. pick_some P c 58 _ _ e refl (λ e. pick_some P c 47 _ _ e refl (λ e. absurd (no_some e)))))))))))))))))))))))))
 
-not_both : (b : Bool) → (b ≡ true → ⊥) → b ≡ false
+pub not_both : (b : Bool) → (b ≡ true → ⊥) → b ≡ false
 not_both true h = absurd (h refl)
 not_both false h = refl
 
 no_option : {A : Type 0} (o : Option A) → ((x : A) → o ≡ Some x → ⊥) → is_some o ≡ false
 no_option None h = refl
 no_option (Some x) h = absurd (h x refl)
+
+slash_starts : starts 47 ≡ false
+unfolding unicode_ident
+slash_starts = refl
 
 pub sort-starts : (c : ℕ) → starts c ≡ true → sort c ≡ 3
 sort-starts c e =
@@ -133,7 +136,3 @@ sort-starts c e =
     let m : is_some (single c) ≡ false = no_option (single c) (λ x h. clash e (single_starts c h)) in
     let s : (c == 47) ≡ false = not_both (c == 47) (λ h. clash (subst (λ x. starts x ≡ true) ((Decides-eqb c 47).0 h) e) slash_starts) in
     rw (a, b, d, q, s, m, e) refl
-  where
-    slash_starts : starts 47 ≡ false
-    unfolding unicode_ident
-    slash_starts = refl

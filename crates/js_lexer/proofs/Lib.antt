@@ -1,5 +1,7 @@
 pub mod Compared
 pub mod FirstLemmas
+pub mod KindLemmas
 pub mod NumberLemmas
+pub mod PieceLemmas
 pub mod PunctuatorLemmas
 pub mod TextLemmas

@@ -31,8 +31,9 @@ pub longest_mark : {text : List ℕ} {i : ℕ} {m n : Mark} {j k : ℕ} → Spel
 longest_mark s last (one g h) = let a = spells_after s in omega (arith, a, h)
 longest_mark {text} {i} {m} {j = j} s last (more {m = c} {j = d} t g h) =
     elim (eq-or-lt_of_le (longest_mark s last t)) [
-      inl same ↦ absurd (no_some (sym last ∙ ap (λ p. extend p (get_or text j 0)) (one_mark s t (sym same)) ∙ ap (λ q. extend c (get_or text q 0)) (sym same) ∙ g))
-    | inr less ↦ omega (arith, less, h) ]
+      | inl same ↦ absurd (no_some (sym last ∙ ap (λ p. extend p (get_or text j 0)) (one_mark s t (sym same)) ∙ ap (λ q. extend c (get_or text q 0)) (sym same) ∙ g))
+      | inr less ↦ omega (arith, less, h)
+    ]
 
 -- no punctuator goes on with NUL, which stands past the end
 pub extend-nul : (m : Mark) → extend m 0 ≡ None
@@ -43,8 +44,9 @@ extend-nul _ = refl
 
 pub extend_within : (text : List ℕ) (k : ℕ) (m n : Mark) → extend m (get_or text k 0) ≡ Some n → k < length text
 extend_within text k m n e = elim (leb_tells (length text) k) [
-    inl t ↦ absurd (no_some (sym (ap (extend m) (get_or_past text k 0 t.1) ∙ extend-nul m) ∙ e))
-  | inr t ↦ t.1 ]
+  | inl t ↦ absurd (no_some (sym (ap (extend m) (get_or_past text k 0 t.1) ∙ extend-nul m) ∙ e))
+  | inr t ↦ t.1
+]
 
 pub no_single : {text : List ℕ} {i : ℕ} {m : Mark} {j : ℕ} → single (get_or text i 0) ≡ None → Spells text i m j → ⊥
 no_single e (one f g) = no_some (sym e ∙ f)

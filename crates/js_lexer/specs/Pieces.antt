@@ -156,7 +156,7 @@ GoesOn text i _ = Unit {0}
 -- How a text that begins after its opening quote ends: with its units and the place past the closing quote,
 -- at the end of all characters, or at a fault.
 abbrev pub EndsSo : List ℕ → (quote : ℕ) → ℕ → Quoted → Type 0
-EndsSo text quote i (quoted.Closed us j) = (k : ℕ) × Ends text quote next.Close i us k × (j ≡ k + 1) × (j ≤ length text)
+EndsSo text quote i (quoted.Closed us j) = (k : ℕ) × Ends text quote next.Close i us k × (j ≡ k + 1) × (i < j) × (j ≤ length text)
 EndsSo text quote i quoted.Open = (us : List ℕ) × (k : ℕ) × Ends text quote next.Open i us k
 EndsSo text quote i quoted.Wrong = (us : List ℕ) × (k : ℕ) × Ends text quote next.Wrong i us k
 

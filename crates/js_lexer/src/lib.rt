@@ -7,8 +7,13 @@ mod chars;
 mod comments;
 mod marks;
 mod numbers;
+mod pieces;
 mod texts;
+mod tokens;
 mod words;
+
+pub use tokens::tokens;
+pub use words::call_units;
 
 /// Punctuators.
 #[derive(Clone, Copy, Debug, Drop, PartialEq, Eq)]
@@ -131,6 +136,37 @@ pub struct Token {
     pub start: u32,
     pub end: u32,
     pub after_newline: bool,
+}
+
+/// Why a script has no tokens: at a byte no whole character stands, no token begins, or a number is
+/// of another form; the script is too large; memory ran out.
+#[derive(Clone, Copy, Debug, Drop, PartialEq, Eq)]
+pub enum LexStop {
+    NotUtf8(u32),
+    BadToken(u32),
+    NumberForm(u32),
+    TooLarge,
+    Memory,
+}
+
+/// What stands at a place: a character of white space, a line terminator, a comment with whether a
+/// line terminator stands in it, or a token.
+#[derive(Drop)]
+pub enum Piece {
+    Blank,
+    Line,
+    Comment(bool),
+    Token(Kind),
+}
+
+/// Why no piece stands at a place: it reaches the byte that begins no whole character, it is no
+/// token, it is a number of another form; or memory ran out.
+#[derive(Clone, Copy, Drop)]
+pub enum Refusal {
+    Broken,
+    Token,
+    Number,
+    Memory,
 }
 
 /// What a backslash and the character after it begin: one unit, a NUL where no digit follows,

@@ -103,7 +103,7 @@ fn next_of(text: &[char], quote: char, place: usize) -> Next
 }
 
 /// Adds a character's units, or a unit, at the end.
-fn push_part(units: &mut Units, part: u32) -> Result<(), NoMemory>
+pub fn push_part(units: &mut Units, part: u32) -> Result<(), NoMemory>
     requires { part < 0x110000 }
     ensures { IfOk result (λ _. units.new ≡ units.old ++ encode_utf16 part) }
 {

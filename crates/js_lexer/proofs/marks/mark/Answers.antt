@@ -11,9 +11,9 @@ returns-in_err-mark-clause-none c =
 
 pub loop-longer-init : goal.loop-longer-init
 loop-longer-init c = record {
-    spells = one (ap single (sym c.at-first.ensures) ∙ sym c.single.ensures ∙ c.in_ok-mark.was) refl;
-    within = omega arith
-  }
+  spells = one (ap single (sym c.at-first.ensures) ∙ sym c.single.ensures ∙ c.in_ok-mark.was) refl;
+  within = omega arith;
+}
 
 pub loop-longer-smaller : goal.loop-longer-smaller
 loop-longer-smaller c =

@@ -14,5 +14,5 @@ loop-digit-preserved c =
       after = omega arith;
       within = omega (arith, within);
       each = digits_more c.args.base c.args.text.now c.args.place c.loop-digit.after c.loop-digit.invariant.each digit;
-      counted = counted_step c.args.base c.args.text.now c.args.place c.loop-digit.after c.loop-digit.value c.in-Some.digit c.more-value.result c.loop-digit.invariant.after bounds.0 (sym (ap digit_value c.at.ensures) ∙ sym c.in-Some.ensures.value.1) c.more-value.ensures.small c.more-value.ensures.large c.loop-digit.invariant.counted
+      counted = counted_step c.args.base c.args.text.now c.args.place c.loop-digit.after c.loop-digit.value c.in-Some.digit c.more-value.result c.loop-digit.invariant.after bounds.0 (sym (ap digit_value c.at.ensures) ∙ sym c.in-Some.ensures.value.1) c.more-value.ensures.small c.more-value.ensures.large c.loop-digit.invariant.counted;
     }

@@ -11,7 +11,7 @@ returns-then-place-i-clause-value c =
 pub returns-in-None-clause-value : goal.returns-in-None-clause-value
 returns-in-None-clause-value c =
     sym (c.loop-i.invariant.goes ∙ hex_wrong c.args.text.now c.loop-i.value (c.args.place + c.loop-i.i) (c.args.count - c.loop-i.i) (omega arith) (omega arith)
-      (subst (λ x. digit_value x < 16 → ⊥) c.at-c.ensures c.in-None.ensures.value))
+    (subst (λ x. digit_value x < 16 → ⊥) c.at-c.ensures c.in-None.ensures.value))
 
 pub loop-i-preserved : goal.loop-i-preserved
 loop-i-preserved c =
@@ -20,12 +20,12 @@ loop-i-preserved c =
     let few : c.in-Some.digit < 16 = omega arith in
     record {
       goes = c.loop-i.invariant.goes
-        ∙ hex_step c.args.text.now c.loop-i.value (c.args.place + c.loop-i.i) (c.args.count - c.loop-i.i) c.in-Some.digit (omega arith) (omega arith) digit same
-        ∙ hex_place c.args.text.now refl (omega arith) (omega arith);
+          ∙ hex_step c.args.text.now c.loop-i.value (c.args.place + c.loop-i.i) (c.args.count - c.loop-i.i) c.in-Some.digit (omega arith) (omega arith) digit same
+          ∙ hex_place c.args.text.now refl (omega arith) (omega arith);
       within = omega arith;
       none = λ h. omega arith;
       one = λ h. omega (arith, c.loop-i.invariant.none);
       two = λ h. omega (arith, c.loop-i.invariant.one);
       three = λ h. omega (arith, c.loop-i.invariant.two);
-      four = λ h. omega (arith, c.loop-i.invariant.three)
+      four = λ h. omega (arith, c.loop-i.invariant.three);
     }

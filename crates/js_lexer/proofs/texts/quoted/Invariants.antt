@@ -4,9 +4,10 @@ use Rattle.js_lexer.proofs.texts.quoted.Given as goal
 
 abbrev pub invariant-parts : goal.invariant-parts
 invariant-parts l = record {
-    body : Body l.text l.quote (l.place + 1) l.units l.here;
-    within : l.here ≤ length l.text
-  }
+  body : Body l.text l.quote (l.place + 1) l.units l.here;
+  after : l.place + 1 ≤ l.here;
+  within : l.here ≤ length l.text;
+}
 
 abbrev pub decreases-parts : goal.decreases-parts
 decreases-parts l = length l.initial.text - l.here
