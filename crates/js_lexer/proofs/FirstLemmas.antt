@@ -1,9 +1,9 @@
 -- What a piece is by its first character: no character begins two kinds of piece, but `/`, which begins comments and punctuators.
-use Rattle.std.proofs.Common.{◌≡◌, ◌≤◌, ◌<◌, ◌+◌, ◌-◌, ℕ, zero, suc, Bool, true, false, not, ◌||◌, ◌&&◌, ◌==◌, nat_le, nat_lt, cond, Option, Some, None, is_some, refl, sym, ◌∙◌, ap, subst, ◌⊎◌, inl, inr, lit≤, arith}
+use Rattle.std.proofs.Common.{◌≡◌, ◌≤◌, ◌<◌, ◌+◌, ◌-◌, ℕ, zero, suc, Bool, true, false, not, ◌||◌, ◌&&◌, ◌==◌, nat_le, cond, Option, Some, None, is_some, refl, sym, ◌∙◌, ap, subst, inl, inr, lit≤, arith}
 use Rattle.std.proofs.lemmas.Bool.Decides.{nat_tests, eqb_tells, leb_tells, Decides-eqb}
 use Rattle.std.specs.Char.{digit_value}
 use Rattle.unicode_ident.proofs.Computing.{unicode_ident}
-use Rattle.js_lexer.specs.Chars.{is_white, is_line_end, is_digit, is_quote, starts, continues}
+use Rattle.js_lexer.specs.Chars.{is_white, is_line_end, is_digit, is_quote, starts}
 use Rattle.js_lexer.proofs.NumberLemmas.{has_digit, clash}
 use Rattle.js_lexer.specs.Marks.{single}
 use Rattle.js_lexer.specs.declared.Mark.{Mark}

@@ -1,21 +1,14 @@
 -- Of each kind of piece only those stand at a place whose first character is there.
-use Rattle.std.proofs.Common.{◌≡◌, ◌≢◌, ◌≤◌, ◌<◌, ◌+◌, ◌-◌, ℕ, zero, suc, Bool, true, false, List, [], ◌∷◌, ◌++◌, length, get_or, Option, Some, None, refl, sym, ◌∙◌, ap, subst, ◌⊎◌, inl, inr, pos, arith}
-use Rattle.std.specs.Prelude.{slice_range}
-use Rattle.std.proofs.lemmas.Bool.Decides.{leb_tells, eqb_tells}
-use Rattle.js_lexer.specs.Chars.{is_white, is_line_end, is_digit, is_quote, starts}
-use Rattle.js_lexer.specs.Marks.{single, extend}
-use Rattle.js_lexer.specs.Words.{reserved_of, call_of}
-use Rattle.js_lexer.specs.Pieces.{IsLineComment, IsBlockComment, IsWord, IsNumber, IsDigits, zero_alone, decimal, hexadecimal, IsHexSign, IsText, IsMark, Spells, one, more, Ends, Body, value}
-use Rattle.js_lexer.specs.Tokens.{IsOne, IsWordAs, StandsAs, IsComment, to_line_end, closed, Stands, Longest, word_kind, word_by, IsOpen, open_comment, open_text, IsOther, Refused, Reason, begins_number}
+use Rattle.std.proofs.Common.{◌≡◌, ◌≤◌, ◌+◌, ℕ, Bool, true, List, get_or, Some, ap, ◌⊎◌, inl, inr, arith}
+use Rattle.js_lexer.specs.Chars.{is_digit}
+use Rattle.js_lexer.specs.Marks.{single}
+use Rattle.js_lexer.specs.Pieces.{IsWord, IsNumber, IsDigits, zero_alone, decimal, hexadecimal, IsText, IsMark, Spells, one, more}
+use Rattle.js_lexer.specs.Tokens.{StandsAs, IsComment, to_line_end, closed, Stands, IsOther}
 use Rattle.js_lexer.specs.declared.Mark.{Mark}
 use Rattle.js_lexer.specs.declared.Kind.{Kind}
 use Rattle.js_lexer.specs.declared.Kind.TheVariants as kind
 use Rattle.js_lexer.specs.declared.Piece.{Piece}
 use Rattle.js_lexer.specs.declared.Piece.TheVariants as piece
-use Rattle.js_lexer.specs.declared.Next.{Next}
-use Rattle.js_lexer.specs.declared.Next.TheVariants as next
-use Rattle.js_lexer.specs.declared.Reserved.{Reserved}
-use Rattle.js_lexer.specs.declared.CallWord.{CallWord}
 use Rattle.js_lexer.proofs.FirstLemmas.{sort, sort-white, sort-line, sort-digit, sort-quote, sort-slash, sort-single, sort-starts}
 use Rattle.js_lexer.proofs.NumberLemmas.{clash}
 

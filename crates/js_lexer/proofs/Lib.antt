@@ -4,4 +4,5 @@ pub mod KindLemmas
 pub mod NumberLemmas
 pub mod PieceLemmas
 pub mod PunctuatorLemmas
+pub mod ScriptLemmas
 pub mod TextLemmas

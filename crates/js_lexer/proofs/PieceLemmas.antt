@@ -1,12 +1,12 @@
 -- What stands at a place, at each exit of the code: the longest piece, or why there is none.
-use Rattle.std.proofs.Common.{◌≡◌, ◌≢◌, ◌≤◌, ◌<◌, ◌+◌, ◌-◌, ℕ, zero, suc, Bool, true, false, not, ◌||◌, ◌&&◌, ◌==◌, List, [], ◌∷◌, ◌++◌, length, get_or, Option, Some, None, Ok, Err, refl, sym, ◌∙◌, ap, subst, ◌⊎◌, inl, inr, pos, arith}
+use Rattle.std.proofs.Common.{◌≡◌, ◌≢◌, ◌≤◌, ◌<◌, ◌+◌, ◌-◌, ℕ, Bool, true, false, ◌||◌, ◌&&◌, ◌==◌, List, length, get_or, Option, Some, None, Ok, Err, refl, sym, ◌∙◌, ap, subst, inl, inr, pos, arith}
 use Rattle.std.specs.Prelude.{slice_range}
 use Rattle.std.proofs.lemmas.Bool.Decides.{leb_tells, eqb_tells, Decides-eqb}
-use Rattle.js_lexer.specs.Chars.{is_white, is_line_end, is_digit, is_quote, starts}
+use Rattle.js_lexer.specs.Chars.{is_white, is_line_end, is_digit, is_quote}
 use Rattle.js_lexer.specs.Marks.{single, extend}
 use Rattle.js_lexer.specs.Words.{reserved_of, call_of}
-use Rattle.js_lexer.specs.Pieces.{IsLineComment, IsBlockComment, Closes, IsWord, IsNumber, IsDigits, IsHexSign, IsText, IsMark, Spells, one, more, Ends, Body, next_of, no_mark, value}
-use Rattle.js_lexer.specs.Tokens.{IsOne, IsWordAs, StandsAs, IsComment, to_line_end, closed, Stands, Longest, word_kind, word_by, IsOpen, open_comment, open_text, IsOther, Refused, Reason, begins_number, PieceAt}
+use Rattle.js_lexer.specs.Pieces.{IsLineComment, IsBlockComment, IsWord, IsNumber, IsHexSign, IsText, IsMark, Spells, one, Ends, no_mark}
+use Rattle.js_lexer.specs.Tokens.{IsWordAs, StandsAs, IsComment, to_line_end, closed, Stands, word_kind, word_by, IsOpen, open_comment, open_text, IsOther, begins_number, PieceAt}
 use Rattle.js_lexer.specs.declared.Mark.{Mark}
 use Rattle.js_lexer.specs.declared.Mark.TheVariants as m
 use Rattle.js_lexer.specs.declared.Kind.{Kind}
@@ -18,8 +18,8 @@ use Rattle.js_lexer.specs.declared.Next.{Next}
 use Rattle.js_lexer.specs.declared.Next.TheVariants as next
 use Rattle.js_lexer.specs.declared.Reserved.{Reserved}
 use Rattle.js_lexer.specs.declared.CallWord.{CallWord}
-use Rattle.js_lexer.proofs.FirstLemmas.{sort, sort-white, sort-line, sort-digit, sort-quote, sort-slash, sort-single, sort-starts, not_both}
-use Rattle.js_lexer.proofs.KindLemmas.{only_blank, only_line, only_word, only_number, only_text, only_slash, only_mark, first_single, number_digit}
+use Rattle.js_lexer.proofs.FirstLemmas.{sort, sort-white, sort-line, sort-digit, sort-quote, sort-slash, sort-starts, not_both}
+use Rattle.js_lexer.proofs.KindLemmas.{only_blank, only_line, only_word, only_number, only_text, only_slash, only_mark, number_digit}
 use Rattle.js_lexer.proofs.NumberLemmas.{clash, run_end, hex_only, decimal_only, zero_only, number_after}
 use Rattle.js_lexer.proofs.TextLemmas.{one_end}
 use Rattle.js_lexer.proofs.PunctuatorLemmas.{longest_mark, spells_after}

@@ -1,11 +1,11 @@
 -- A text, one part at a time.
-use Rattle.std.proofs.Common.{◌≡◌, ◌≤◌, ◌<◌, ◌+◌, ◌-◌, ◌*◌, ℕ, zero, suc, Bool, true, false, List, [], ◌++◌, length, get_or, nat_lt, nat_le, refl, sym, ◌∙◌, ap, subst, append_assoc, append-nil, arith}
+use Rattle.std.proofs.Common.{◌≡◌, ◌≤◌, ◌<◌, ◌+◌, ◌-◌, ◌*◌, ℕ, zero, suc, true, false, List, ◌++◌, length, get_or, nat_lt, nat_le, refl, sym, ◌∙◌, ap, subst, append_assoc, append-nil, arith}
 use Rattle.std.proofs.lemmas.Bool.Decides.{nat_tests}
 use Rattle.std.specs.Char.{digit_value}
 use Rattle.std.specs.Char.Escape.{encode_utf16}
-use Rattle.js_lexer.specs.Pieces.{Body, nothing, part, Ends, next_of, hex_from}
+use Rattle.js_lexer.specs.Pieces.{Body, nothing, part, next_of, hex_from}
 use Rattle.js_lexer.specs.declared.Next.{Next}
-use Rattle.js_lexer.specs.declared.Next.TheVariants.{Close, Open, Wrong, Part}
+use Rattle.js_lexer.specs.declared.Next.TheVariants.{Open, Wrong, Part}
 
 pub body_more : {text : List ℕ} {quote s i k n : ℕ} {us : List ℕ} → Body text quote s us i → next_of text quote i ≡ Part n k → Body text quote s (us ++ encode_utf16 n) k
 body_more {text} {quote} {k = k} {n = n} (nothing none here) p =

@@ -1,5 +1,5 @@
 -- Punctuators (ECMA-262 3rd ed. 7.7): each is one character, or a shorter punctuator and one character more.
-use Rattle.std.specs.Prelude.{ℕ, Bool, ◌==◌, Option, Some, None, if◌then◌else◌}
+use Rattle.std.specs.Prelude.{ℕ, ◌==◌, Option, Some, None, if◌then◌else◌}
 use Rattle.js_lexer.specs.declared.Mark.{Mark}
 use Rattle.js_lexer.specs.declared.Mark.TheVariants as m
 

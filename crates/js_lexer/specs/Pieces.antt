@@ -1,9 +1,9 @@
 -- The pieces that a text is cut into (ECMA-262 3rd ed. 7): each with the places where it begins and ends,
 -- by the characters that stand at each place. Past the end of the text `slice_index` gives NUL, which belongs to no class.
-use Rattle.std.specs.Prelude.{◌≡◌, ◌≤◌, ◌<◌, ◌+◌, ◌-◌, ◌*◌, ◌^◌, ℕ, zero, suc, Bool, true, false, not, ◌||◌, ◌&&◌, ◌==◌, nat_le, List, [], ◌∷◌, ◌++◌, length, slice_index, slice_range, Option, Some, None, ◌⊎◌, if◌then◌else◌, MatchBool}
+use Rattle.std.specs.Prelude.{◌≡◌, ◌≤◌, ◌<◌, ◌+◌, ◌-◌, ◌*◌, ◌^◌, ℕ, zero, suc, Bool, true, false, not, ◌||◌, ◌&&◌, ◌==◌, nat_le, List, [], ◌++◌, length, slice_index, Some, ◌⊎◌, if◌then◌else◌, MatchBool}
 use Rattle.std.specs.Char.{digit_value}
 use Rattle.std.specs.Char.Escape.{encode_utf16}
-use Rattle.js_lexer.specs.Chars.{is_white, is_line_end, is_digit, is_quote, starts, continues}
+use Rattle.js_lexer.specs.Chars.{is_line_end, is_digit, is_quote, starts, continues}
 use Rattle.js_lexer.specs.Marks.{single, extend}
 use Rattle.js_lexer.specs.declared.Mark.{Mark}
 use Rattle.js_lexer.specs.declared.Escape.{Escape}

@@ -1,10 +1,11 @@
 -- The tokens of a script: at each place the longest piece (ECMA-262 3rd ed. 7), with the bytes that each token is,
 -- and the first fault of a script that has no tokens.
-use Rattle.std.specs.Prelude.{◌≡◌, ◌≢◌, ◌≤◌, ◌<◌, ◌+◌, ◌*◌, ◌^◌, ℕ, zero, suc, Bool, true, false, not, ◌||◌, ◌&&◌, ◌==◌, List, [], ◌∷◌, ◌++◌, length, take, slice_index, slice_range, Option, Some, None, Result, Ok, Err, ◌⊎◌, MatchBool, encode_utf8_all, ℤ, pos, if◌then◌else◌}
+use Rattle.std.specs.Prelude.{◌≡◌, ◌≢◌, ◌≤◌, ◌<◌, ◌+◌, ℕ, Bool, true, false, ◌||◌, ◌&&◌, ◌==◌, List, [], ◌∷◌, ◌++◌, length, take, slice_index, slice_range, Option, Some, None, Result, Ok, Err, MatchBool, encode_utf8_all, pos, if◌then◌else◌}
 use Rattle.std.specs.List.{flat_map}
 use Rattle.std.specs.Char.Escape.{encode_utf16}
 use Rattle.std.specs.Str.{IsValidUpTo, all_scalars}
-use Rattle.std.specs.Prelude.{Vec, Global}
+use Rattle.std.specs.Prelude.{Vec}
+use Rattle.std.specs.declared.alloc.Global.{Global}
 use Rattle.js_lexer.specs.Chars.{is_white, is_line_end, is_digit, is_quote, starts}
 use Rattle.js_lexer.specs.Words.{reserved_of, call_of}
 use Rattle.js_lexer.specs.Pieces.{IsLineComment, IsBlockComment, IsWord, IsNumber, IsText, IsMark, Ends}
@@ -152,7 +153,7 @@ fault_at text i refusal.Memory = stop.Memory
 pub data Fails (text : List ℕ) (broken : Bool) : ℕ → LexStop → Type 0 where
   at_byte : {i : ℕ} {f : LexStop} → broken ≡ true → i ≡ length text → f ≡ stop.NotUtf8 (byte_of text i) → Fails text broken i f
   refused : {i : ℕ} {e : Refusal} {f : LexStop} → i < length text → Refused text broken i e → f ≡ fault_at text i e → Fails text broken i f
-  after : {i j : ℕ} {p : Piece} {f : LexStop} → Longest text p i j → Fails text broken j f → Fails text broken i f
+  later : {i j : ℕ} {p : Piece} {f : LexStop} → Longest text p i j → Fails text broken j f → Fails text broken i f
 
 -- the answer, with a list in the place of the vector
 abbrev pub items_of : Result (Vec Token Global) LexStop → Result (List Token) LexStop

@@ -1,5 +1,5 @@
 -- Reserved words (ECMA-262 3rd ed. 7.5.2, 7.5.3, 7.8.1, 7.8.2) and the words of script calls (own rule).
-use Rattle.std.specs.Prelude.{ℕ, Bool, List, [], ◌∷◌, Option, Some, None, codes, if◌then◌else◌}
+use Rattle.std.specs.Prelude.{ℕ, List, Option, Some, None, codes, if◌then◌else◌}
 use Rattle.std.specs.Str.{bytes_eq}
 use Rattle.js_lexer.specs.declared.Reserved.{Reserved}
 use Rattle.js_lexer.specs.declared.Reserved.TheVariants as w

@@ -8,11 +8,11 @@ mod comments;
 mod marks;
 mod numbers;
 mod pieces;
+mod script;
 mod texts;
-mod tokens;
 mod words;
 
-pub use tokens::tokens;
+pub use script::tokens;
 pub use words::call_units;
 
 /// Punctuators.
@@ -197,4 +197,96 @@ pub enum Quoted {
     Closed(Units, usize),
     Open,
     Wrong,
+}
+
+#[cfg(test)]
+mod tests {
+    use super::*;
+    use std::test::Fail;
+
+    const COUNTS: [(&str, usize); 12] = [
+        ("", 1),
+        ("\u{FEFF}a", 2),
+        ("a>>>=b", 4),
+        ("a+++b", 5),
+        ("/* x */ a // b", 2),
+        ("ifx if", 3),
+        ("$_a1 \u{3C0}\u{30A}", 3),
+        ("0xFf 0 9007199254740992", 4),
+        ("'a\\x41\\u0041\\0' \"\"", 3),
+        ("a\u{2028}b", 3),
+        ("print(\"\\uD800\");", 6),
+        ("a/b/*c*/", 4),
+    ];
+
+    const FAULTS: [(&[u8], LexStop); 18] = [
+        (b"print(1.5);", LexStop::NumberForm(6)),
+        (b"\x70\xFF", LexStop::NotUtf8(1)),
+        (b"'a", LexStop::BadToken(0)),
+        (b"var x = 017;", LexStop::NumberForm(8)),
+        (b"0x", LexStop::NumberForm(0)),
+        (b"3in", LexStop::NumberForm(0)),
+        (b"1e5", LexStop::NumberForm(0)),
+        (b"a.5", LexStop::NumberForm(1)),
+        (b"1\\u0061", LexStop::BadToken(1)),
+        (b"9007199254740993", LexStop::NumberForm(0)),
+        (b"a /* b", LexStop::BadToken(2)),
+        (b"'a\n'", LexStop::BadToken(0)),
+        (b"'\\x4g'", LexStop::BadToken(0)),
+        (b"'\\01'", LexStop::BadToken(0)),
+        (b"'\\x4\xFF", LexStop::NotUtf8(4)),
+        (b"'\n\xFF", LexStop::BadToken(0)),
+        (b"/* \xFF", LexStop::NotUtf8(3)),
+        (b"a # b", LexStop::BadToken(2)),
+    ];
+
+    #[test]
+    fn counts(rt: HostRuntime) -> Result<(), Fail> {
+        for (text, many) in COUNTS {
+            let found = tokens(rt.alloc(), text.as_bytes());
+            match found {
+                Ok(found) => assert_eq!(rt; found.len(), many, "{text}"),
+                Err(stop) => panic!(rt; "{text} {stop:?}"),
+            }
+        }
+        Ok(())
+    }
+
+    #[test]
+    fn faults(rt: HostRuntime) -> Result<(), Fail> {
+        for (bytes, stop) in FAULTS {
+            match tokens(rt.alloc(), bytes) {
+                Ok(_) => panic!(rt; "{bytes:?} has tokens"),
+                Err(found) => assert_eq!(rt; found, stop, "{bytes:?}"),
+            }
+        }
+        Ok(())
+    }
+
+    #[test]
+    fn first_tokens(rt: HostRuntime) -> Result<(), Fail> {
+        let units = match call_units(rt.alloc(), CallWord::Print) {
+            Ok(units) => units,
+            Err(_) => panic!(rt; "want of memory"),
+        };
+        assert_eq!(rt; units.as_slice(), [112, 114, 105, 110, 116].as_slice());
+        match tokens(rt.alloc(), b"'\\uD800'\n7") {
+            Err(stop) => panic!(rt; "{stop:?}"),
+            Ok(found) => {
+                assert_eq!(rt; found.len(), 3);
+                match &found[0].kind {
+                    Kind::Text(units) => assert_eq!(rt; units.as_slice(), [0xD800].as_slice()),
+                    _ => panic!(rt; "no text"),
+                }
+                assert_eq!(rt; found[1].start, 9);
+                assert_eq!(rt; found[1].end, 10);
+                assert!(rt; found[1].after_newline);
+                match &found[1].kind {
+                    Kind::Number(value) => assert_eq!(rt; value.get(), 7),
+                    _ => panic!(rt; "no number"),
+                }
+            }
+        }
+        Ok(())
+    }
 }

@@ -1,5 +1,5 @@
 -- The first `*/` closes the comment.
-use Rattle.std.proofs.Common.{◌≡◌, ◌<◌, ◌≤◌, ◌+◌, ◌-◌, ℕ, refl, ◌∙◌, ap, sym, subst, get_or, arith}
+use Rattle.std.proofs.Common.{◌≡◌, ◌+◌, ◌-◌, ℕ, ◌∙◌, sym, subst, arith}
 use Rattle.js_lexer.specs.Pieces.{Closes, HasLineEnd}
 use Rattle.js_lexer.proofs.Compared.{stands_within}
 use Rattle.js_lexer.proofs.comments.block_comment.Goals as goal

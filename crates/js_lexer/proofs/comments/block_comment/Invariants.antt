@@ -1,4 +1,4 @@
-use Rattle.std.proofs.Common.{◌≡◌, ℕ, ◌<◌, ◌≤◌, ◌+◌, get_or}
+use Rattle.std.proofs.Common.{ℕ, ◌<◌, ◌≤◌, ◌+◌}
 use Rattle.js_lexer.specs.Pieces.{Closes, HasLineEnd}
 use Rattle.js_lexer.proofs.comments.block_comment.Given as goal
 

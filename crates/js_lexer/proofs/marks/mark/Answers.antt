@@ -1,5 +1,5 @@
 -- A punctuator that is extended as far as may be is the longest.
-use Rattle.std.proofs.Common.{◌≡◌, ◌<◌, ◌+◌, ℕ, length, get_or, Some, None, refl, sym, ◌∙◌, ap, arith}
+use Rattle.std.proofs.Common.{◌≡◌, ◌<◌, length, get_or, Some, refl, sym, ◌∙◌, ap, arith}
 use Rattle.js_lexer.specs.Marks.{single, extend}
 use Rattle.js_lexer.specs.Pieces.{one, more}
 use Rattle.js_lexer.proofs.PunctuatorLemmas.{longest_mark, extend_within, no_single}

@@ -1,5 +1,5 @@
 -- One digit more.
-use Rattle.std.proofs.Common.{◌≡◌, ◌<◌, ◌≤◌, ◌∙◌, ap, sym, subst, get_or, arith}
+use Rattle.std.proofs.Common.{◌<◌, ◌≤◌, ◌∙◌, ap, sym, subst, get_or, arith}
 use Rattle.std.specs.Char.{digit_value}
 use Rattle.js_lexer.proofs.NumberLemmas.{base_some, digit_within, digits_more, counted_step}
 use Rattle.js_lexer.proofs.numbers.digits.Goals as goal

@@ -1,5 +1,5 @@
 -- No number begins with `0x` where no digit follows, or what follows makes none.
-use Rattle.std.proofs.Common.{◌≡◌, ◌<◌, ◌≤◌, ◌+◌, ◌-◌, ℕ, refl, ◌∙◌, ap, sym, subst, get_or, false, Option, Some, None, arith}
+use Rattle.std.proofs.Common.{◌≡◌, ◌+◌, subst, get_or, false, Option, Some, None, arith}
 use Rattle.std.specs.Option.{IfNone}
 use Rattle.js_lexer.specs.Chars.{is_digit}
 use Rattle.js_lexer.proofs.NumberLemmas.{hex_only, none_of, clash}

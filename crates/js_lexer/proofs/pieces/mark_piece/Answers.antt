@@ -1,7 +1,6 @@
 -- A punctuator, or none.
-use Rattle.std.proofs.Common.{◌≡◌, ◌≢◌, ◌<◌, ◌≤◌, ◌+◌, ◌-◌, ◌^◌, ◌&&◌, ◌==◌, ℕ, Bool, List, true, false, refl, ◌∙◌, ap, sym, subst, get_or, length, arith}
+use Rattle.std.proofs.Common.{◌≡◌, ◌+◌, ◌&&◌, ◌==◌, ℕ, Bool, List, ◌∙◌, ap, sym, get_or}
 use Rattle.js_lexer.specs.Chars.{is_digit}
-use Rattle.js_lexer.proofs.Compared.{stands_within}
 use Rattle.js_lexer.proofs.PieceLemmas.{mark_found, mark_none, point_refused}
 use Rattle.js_lexer.proofs.pieces.mark_piece.Goals as goal
 

@@ -1,6 +1,5 @@
 -- A number, or none.
-use Rattle.std.proofs.Common.{◌≡◌, ◌≢◌, ◌<◌, ◌≤◌, ◌+◌, ◌-◌, ◌^◌, ◌&&◌, ◌==◌, ℕ, Bool, true, false, refl, ◌∙◌, ap, sym, subst, get_or, length, Ok, arith}
-use Rattle.js_lexer.specs.Chars.{is_digit}
+use Rattle.std.proofs.Common.{sym, subst, Ok}
 use Rattle.js_lexer.specs.Tokens.{PieceAt}
 use Rattle.js_lexer.specs.declared.Kind.TheVariants as kind
 use Rattle.js_lexer.specs.declared.Piece.TheVariants as piece

@@ -1,6 +1,5 @@
-use Rattle.std.proofs.Common.{◌≡◌, ◌≢◌, ◌<◌, ◌≤◌, ◌+◌, ◌-◌, ◌^◌, ℕ, true, false, refl, ◌∙◌, ap, sym, subst, get_or, length, arith}
+use Rattle.std.proofs.Common.{◌∙◌, ap, sym}
 use Rattle.js_lexer.specs.Chars.{is_white, is_line_end}
-use Rattle.js_lexer.proofs.Compared.{stands_within}
 use Rattle.js_lexer.proofs.PieceLemmas.{white_found, line_found}
 use Rattle.js_lexer.proofs.pieces.piece.Goals as goal
 

@@ -1,6 +1,5 @@
 -- A comment, or a punctuator that begins with a slash.
-use Rattle.std.proofs.Common.{◌≡◌, ◌≢◌, ◌<◌, ◌≤◌, ◌+◌, ◌-◌, ◌^◌, ◌&&◌, ◌==◌, ℕ, Bool, true, false, refl, ◌∙◌, ap, sym, subst, get_or, length, arith}
-use Rattle.js_lexer.specs.Chars.{is_digit}
+use Rattle.std.proofs.Common.{◌+◌, ◌∙◌, sym, arith}
 use Rattle.js_lexer.proofs.Compared.{stands_within}
 use Rattle.js_lexer.proofs.PieceLemmas.{line_comment_found, block_comment_found, block_broken, block_unclosed, slash_found, slash_none}
 use Rattle.js_lexer.proofs.pieces.slash_piece.Goals as goal

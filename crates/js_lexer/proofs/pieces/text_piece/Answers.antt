@@ -1,7 +1,5 @@
 -- A text, or how it fails to end.
-use Rattle.std.proofs.Common.{◌≡◌, ◌≢◌, ◌<◌, ◌≤◌, ◌+◌, ◌-◌, ◌^◌, ◌&&◌, ◌==◌, ℕ, Bool, true, false, refl, ◌∙◌, ap, sym, subst, get_or, length, arith}
-use Rattle.js_lexer.specs.Chars.{is_digit}
-use Rattle.js_lexer.proofs.Compared.{stands_within}
+use Rattle.std.proofs.Common.{arith}
 use Rattle.js_lexer.proofs.PieceLemmas.{text_found, text_broken, text_unclosed, text_wrong, text_long}
 use Rattle.js_lexer.proofs.pieces.text_piece.Goals as goal
 

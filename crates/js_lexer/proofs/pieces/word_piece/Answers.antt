@@ -1,5 +1,3 @@
-use Rattle.std.proofs.Common.{◌≡◌, ◌≢◌, ◌<◌, ◌≤◌, ◌+◌, ◌-◌, ◌^◌, ℕ, true, false, refl, ◌∙◌, ap, sym, subst, get_or, length, arith}
-use Rattle.js_lexer.proofs.Compared.{stands_within}
 use Rattle.js_lexer.proofs.PieceLemmas.{word_found}
 use Rattle.js_lexer.proofs.pieces.word_piece.Goals as goal
 

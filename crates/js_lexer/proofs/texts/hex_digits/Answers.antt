@@ -1,5 +1,5 @@
 -- The digits so far, and those that are left.
-use Rattle.std.proofs.Common.{◌≡◌, ◌<◌, ◌≤◌, ◌+◌, ◌-◌, ℕ, refl, ◌∙◌, ap, sym, subst, get_or, arith}
+use Rattle.std.proofs.Common.{◌≡◌, ◌<◌, ◌+◌, ◌-◌, refl, ◌∙◌, ap, sym, subst, get_or, arith}
 use Rattle.std.specs.Char.{digit_value}
 use Rattle.js_lexer.proofs.TextLemmas.{hex_step, hex_open, hex_wrong, hex_place}
 use Rattle.js_lexer.proofs.texts.hex_digits.Goals as goal

@@ -1,5 +1,5 @@
 -- The parts of a text, one after another.
-use Rattle.std.proofs.Common.{◌≡◌, ◌+◌, refl, ◌∙◌, ap, sym, subst, arith}
+use Rattle.std.proofs.Common.{◌+◌, refl, sym, subst, arith}
 use Rattle.js_lexer.specs.Pieces.{Body, nothing, Ends}
 use Rattle.js_lexer.proofs.TextLemmas.{body_more}
 use Rattle.js_lexer.specs.declared.Next.TheVariants.{Close}

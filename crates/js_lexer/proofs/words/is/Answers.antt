@@ -1,4 +1,4 @@
-use Rattle.std.proofs.Common.{◌≡◌, ◌∙◌, ap, get_or, arith}
+use Rattle.std.proofs.Common.{◌∙◌, ap, get_or, arith}
 use Rattle.js_lexer.proofs.Compared.{same}
 use Rattle.js_lexer.proofs.words.is.Goals as goal
 

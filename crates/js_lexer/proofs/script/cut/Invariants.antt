@@ -2,7 +2,7 @@ use Rattle.std.proofs.Common.{◌≡◌, ◌≤◌, ◌++◌, ◌-◌, false, Li
 use Rattle.js_lexer.specs.Tokens.{byte_of, Cut, Fails}
 use Rattle.js_lexer.specs.declared.Token.{Token}
 use Rattle.js_lexer.specs.declared.LexStop.{LexStop}
-use Rattle.js_lexer.proofs.tokens.cut.Given as goal
+use Rattle.js_lexer.proofs.script.cut.Given as goal
 
 -- What the rest of the text is cut into, after the tokens so far, the whole is cut into; and so for its fault.
 abbrev pub invariant-loop-place : goal.invariant-loop-place
