@@ -1,6 +1,7 @@
 -- Values, kinds of cells, properties, and data.
 use Rattle.std.specs.Prelude.{ℕ, ℤ, List, Bool, Option}
 use Rattle.turk_base.specs.Names.{Units, Name, Path}
+pub use Rattle.turk_base.specs.Data.{Data, DUndefined, DNull, DTruth, DNumber, DText, DList, DFields, Items, NoItems, Item, Fields, NoFields, Field}
 
 pub data Val : Type 0 where
   Undefined : Val
@@ -25,25 +26,6 @@ pub record Known : Type 0 where
 
 pub data Property : Type 0 where
   property : (key : Units) → (v : Val) → Property
-
--- Plain data, as it is recorded.
-mutual
-  pub data Data : Type 0 where
-    DUndefined : Data
-    DNull : Data
-    DTruth : (b : Bool) → Data
-    DNumber : (z : ℤ) → Data
-    DText : (units : Units) → Data
-    DList : (items : Items) → Data
-    DFields : (fields : Fields) → Data
-
-  pub data Items : Type 0 where
-    NoItems : Items
-    Item : (d : Data) → (rest : Items) → Items
-
-  pub data Fields : Type 0 where
-    NoFields : Fields
-    Field : (key : Units) → (d : Data) → (rest : Fields) → Fields
 
 -- why a run is refused
 pub data Refusal : Type 0 where

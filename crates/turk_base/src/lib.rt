@@ -15,8 +15,14 @@ use std::marker::Model;
 mod byte_lists;
 mod names;
 mod paths;
+mod records;
+mod reply_lists;
 mod texts;
+mod tokens;
+mod trees;
 mod wholes;
+
+pub use tokens::token;
 
 /// Want of memory.
 #[derive(Clone, Copy, Debug, Drop, PartialEq, Eq)]
@@ -178,4 +184,129 @@ impl PartialEq for Name {
 
 impl Eq for Name {
     ghost laws = { nat_list_eq_equiv };
+}
+
+/// Plain data: a tree whose fields have distinct keys at every level.
+#[cycle(plain)]
+#[derive(Drop)]
+pub struct Data {
+    node: Node,
+}
+
+/// One level of plain data.
+#[cycle(plain)]
+#[derive(Drop)]
+pub enum Node {
+    Undefined,
+    Null,
+    Truth(bool),
+    Number(Whole),
+    Text(Units),
+    List(Vec<Data>),
+    Fields(Vec<(Units, Data)>),
+}
+
+impl Model for Data {
+    ghost use Rattle.turk_base.specs.Data as plain;
+
+    ghost Value = { plain.Data };
+
+    ghost coded = { plain.coded_data };
+
+    ghost use Rattle.turk_base.specs.Node.{data_of, HasDistinctKeys};
+
+    ghost view = { λ a. data_of a.node };
+
+    ghost invariant = { λ a. HasDistinctKeys a.node };
+
+    ghost size = { plain.size };
+
+    ghost use Rattle.turk_base.specs.DataFalls.{child_size_le};
+
+    ghost size_decreases = { λ a h. child_size_le a.node };
+}
+
+/// What a call left in the trace.
+#[derive(Drop)]
+pub enum Record {
+    /// The text of a task.
+    Post(Units),
+    /// The token that was asked, and the reply's text.
+    Reply(Units, Units),
+    /// The bound, and the value below it.
+    Draw(Whole, Whole),
+    /// The value of a once call.
+    Once(Data),
+}
+
+/// A record at its path.
+#[derive(Drop)]
+pub struct Entry {
+    pub path: Path,
+    pub what: Record,
+}
+
+/// Replies in order: pairs of a token and a text.
+#[derive(Drop)]
+pub struct Replies {
+    items: Vec<(Units, Units)>,
+}
+
+impl Model for Replies {
+    ghost use Rattle.std.specs.Prelude.{List, ℕ};
+
+    ghost Value = { List (List ℕ × List ℕ) };
+
+    ghost view = { λ r. r.items.items };
+}
+
+/// What a run is given beside its script.
+#[derive(Drop)]
+pub struct Settings {
+    pub name: Name,
+    /// The units that a run may spend, from 1 to 20,000,000.
+    pub fuel: u64,
+    /// The number that begins the draws.
+    pub dice: u64,
+}
+
+/// A part of a cell: its shape, or its value under a key.
+#[derive(Drop)]
+pub enum SlotKey {
+    Shape,
+    Key(Units),
+}
+
+/// A slot: the scope in which its cell was made, the cell's number there, and the part.
+#[derive(Drop)]
+pub struct SlotName {
+    pub scope: Path,
+    pub number: u32,
+    pub key: SlotKey,
+}
+
+/// Whether the branches of a run were independent, or the first reason why not.
+#[derive(Drop)]
+pub enum Verdict {
+    Independent,
+    TouchedOpen(SlotName),
+    OnceWhileOpen(SlotName),
+    BranchThrew(Path),
+}
+
+/// Why bytes are no text.
+#[derive(Clone, Copy, Debug, Drop, PartialEq, Eq)]
+pub enum TextStop {
+    /// The first place, in bytes, where no whole character stands.
+    NotUtf8(u32),
+    /// More than 1,048,576 units.
+    TooLong,
+    Memory,
+}
+
+/// Why a text is no session name.
+#[derive(Clone, Copy, Debug, Drop, PartialEq, Eq)]
+pub enum NameStop {
+    Bad,
+    Memory,
 }
