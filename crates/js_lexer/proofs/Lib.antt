@@ -6,3 +6,4 @@ pub mod PieceLemmas
 pub mod PunctuatorLemmas
 pub mod ScriptLemmas
 pub mod TextLemmas
+pub mod Unique

@@ -135,6 +135,13 @@ zero_only text n i j h first sign = by_digits h.digits where
   by_digits (decimal e f g k) = absurd (e first)
   by_digits (hexadecimal e f g k l) = absurd (sign f)
 
+pub zero_value : (text : List ℕ) (n i j : ℕ) → IsNumber text n i j → get_or text i 0 ≡ 48 → (IsHexSign (get_or text (i + 1) 0) → ⊥) → n ≡ 0
+zero_value text n i j h first sign = by_digits h.digits where
+  by_digits : IsDigits text n i j → n ≡ 0
+  by_digits (zero_alone e f g) = g
+  by_digits (decimal e f g k) = absurd (e first)
+  by_digits (hexadecimal e f g k l) = absurd (sign f)
+
 pub number_after : (text : List ℕ) (n i j : ℕ) → IsDigits text n i j → i < j
 number_after text n i j (zero_alone e f g) = omega arith
 number_after text n i j (decimal e f g k) = f

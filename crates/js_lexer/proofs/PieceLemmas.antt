@@ -20,7 +20,7 @@ use Rattle.js_lexer.specs.declared.Reserved.{Reserved}
 use Rattle.js_lexer.specs.declared.CallWord.{CallWord}
 use Rattle.js_lexer.proofs.FirstLemmas.{sort, sort-white, sort-line, sort-digit, sort-quote, sort-slash, sort-starts, not_both}
 use Rattle.js_lexer.proofs.KindLemmas.{only_blank, only_line, only_word, only_number, only_text, only_slash, only_mark, number_digit}
-use Rattle.js_lexer.proofs.NumberLemmas.{clash, run_end, hex_only, decimal_only, zero_only, number_after}
+use Rattle.js_lexer.proofs.NumberLemmas.{clash, run_end, hex_only, decimal_only, zero_only, zero_value, number_after}
 use Rattle.js_lexer.proofs.TextLemmas.{one_end}
 use Rattle.js_lexer.proofs.PunctuatorLemmas.{longest_mark, spells_after}
 
@@ -107,6 +107,24 @@ number_same text n p i j k g h = elim (eqb_tells (get_or text i 0) 48) [
     no : get_or text (i + 1) 0 ≢ 120 → get_or text (i + 1) 0 ≢ 88 → IsHexSign (get_or text (i + 1) 0) → ⊥
     no a b s = elim s [ inl x ↦ a x | inr x ↦ b x ]
 
+pub number_value : (text : List ℕ) (n p i j : ℕ) → IsNumber text n i j → IsNumber text p i j → n ≡ p
+number_value text n p i j g h = elim (eqb_tells (get_or text i 0) 48) [
+  | inr t ↦ (decimal_only text n i j g t.1).3 ∙ sym (decimal_only text p i j h t.1).3
+  | inl t ↦ elim (eqb_tells (get_or text (i + 1) 0) 120) [
+    | inl u ↦ hex t.1 (inl u.1)
+    | inr u ↦ elim (eqb_tells (get_or text (i + 1) 0) 88) [
+      | inl v ↦ hex t.1 (inr v.1)
+      | inr v ↦ zero_value text n i j g t.1 (no u.1 v.1) ∙ sym (zero_value text p i j h t.1 (no u.1 v.1))
+    ]
+  ]
+]
+  where
+    hex : get_or text i 0 ≡ 48 → IsHexSign (get_or text (i + 1) 0) → n ≡ p
+    hex first sign = (hex_only text n i j g first sign).3 ∙ sym (hex_only text p i j h first sign).3
+
+    no : get_or text (i + 1) 0 ≢ 120 → get_or text (i + 1) 0 ≢ 88 → IsHexSign (get_or text (i + 1) 0) → ⊥
+    no a b s = elim s [ inl x ↦ a x | inr x ↦ b x ]
+
 pub number_found : (text : List ℕ) (broken : Bool) (n i j : ℕ) → IsNumber text n i j → PieceAt text broken i (Ok (piece.Token (kind.Number (pos n)), j))
 number_found text broken n i j number = (
   record {
@@ -137,7 +155,7 @@ not_number c d s e no_digit no_point =
     let b : (c == 46) ≡ false = not_both (c == 46) (λ h. no_point (sym e ∙ ap sort ((Decides-eqb c 46).0 h) ∙ sort-point)) in
     rw (a, b) refl
 
-quote_no_number : (c d : ℕ) → is_quote c ≡ true → begins_number c d ≡ false
+pub quote_no_number : (c d : ℕ) → is_quote c ≡ true → begins_number c d ≡ false
 quote_no_number c d e = not_number c d 5 (sort-quote c e) (λ h. omega arith) (λ h. omega arith)
 
 close_part : (n m : ℕ) → next.Close ≡ next.Part n m → ⊥
@@ -161,7 +179,7 @@ wrong_open e = cc
 two_ends : {text : List ℕ} {quote s i k : ℕ} {us vs : List ℕ} {a b : Next} → ((n m : ℕ) → a ≡ next.Part n m → ⊥) → ((n m : ℕ) → b ≡ next.Part n m → ⊥) → Ends text quote a s us i → Ends text quote b s vs k → (us ≡ vs) × (i ≡ k) × (a ≡ b)
 two_ends na nb g h = one_end refl na nb g.body g.there h.body h.there
 
-text_end : (text us vs : List ℕ) (i j k : ℕ) → IsText text us i j → IsText text vs i k → (us ≡ vs) × (j ≡ k)
+pub text_end : (text us vs : List ℕ) (i j k : ℕ) → IsText text us i j → IsText text vs i k → (us ≡ vs) × (j ≡ k)
 text_end text us vs i j k g h =
     let e = two_ends close_part close_part g.ends h.ends in
     (e.0, g.past ∙ ap (λ x. x + 1) e.1 ∙ sym h.past)
@@ -231,7 +249,7 @@ block_same text a b i j k g h = elim (leb_tells k j) [
   | inr t ↦ (let x = g.after in let y = t.1 in absurd (h.first (j - 2) (omega arith) (omega arith) g.closes))
 ]
 
-two_values : {a : ℕ} → a ≡ 42 → a ≡ 47 → ⊥
+pub two_values : {a : ℕ} → a ≡ 42 → a ≡ 47 → ⊥
 two_values e f = omega arith
 
 single_slash : single 47 ≡ Some m.Slash
@@ -242,7 +260,7 @@ extend_slash : extend m.Slash 47 ≡ None
 unfolding extend
 extend_slash = refl
 
-slash_mark_end : (text : List ℕ) (i j : ℕ) (mark : Mark) → get_or text i 0 ≡ 47 → get_or text (i + 1) 0 ≡ 47 → IsMark text mark i j → j ≤ i + 1
+pub slash_mark_end : (text : List ℕ) (i j : ℕ) (mark : Mark) → get_or text i 0 ≡ 47 → get_or text (i + 1) 0 ≡ 47 → IsMark text mark i j → j ≤ i + 1
 slash_mark_end text i j mark first second h =
     longest_mark (one (slash_single (get_or text i 0) first) refl) (slash_extend (get_or text (i + 1) 0) second) h.spells
   where
@@ -269,7 +287,7 @@ line_comment_found text broken i j found = (
     by_comment k line (to_line_end e h) = line_same text i j k found h
     by_comment k line (closed h) = absurd (two_values h.star found.slash_again)
 
-no_mark_star : (text : List ℕ) (i j : ℕ) (mark : Mark) → get_or text i 0 ≡ 47 → get_or text (i + 1) 0 ≡ 42 → IsMark text mark i j → ⊥
+pub no_mark_star : (text : List ℕ) (i j : ℕ) (mark : Mark) → get_or text i 0 ≡ 47 → get_or text (i + 1) 0 ≡ 42 → IsMark text mark i j → ⊥
 no_mark_star text i j mark first second h = clash (ap (λ c. no_mark c (get_or text (i + 1) 0)) first ∙ ap (no_mark 47) second) h.mark
 
 pub block_comment_found : (text : List ℕ) (broken line : Bool) (i j : ℕ) → IsBlockComment text line i j → PieceAt text broken i (Ok (piece.Comment line, j))
@@ -299,7 +317,7 @@ no_block text i first second none p j h = elim (only_slash text p i j h (sort-sl
     by_comment line (to_line_end e h) = two_values second h.slash_again
     by_comment line (closed h) = none line j h
 
-slash_no_number : (c d : ℕ) → c ≡ 47 → begins_number c d ≡ false
+pub slash_no_number : (c d : ℕ) → c ≡ 47 → begins_number c d ≡ false
 slash_no_number c d e = not_number c d 6 (sort-slash c e) (λ h. omega arith) (λ h. omega arith)
 
 pub block_broken : (text : List ℕ) (broken : Bool) (i : ℕ) → broken ≡ true → get_or text i 0 ≡ 47 → get_or text (i + 1) 0 ≡ 42 → ((line : Bool) (j : ℕ) → IsBlockComment text line i j → ⊥) → PieceAt text broken i (Err refusal.Broken)

@@ -195,3 +195,7 @@ Answers bytes (Err stop.Memory) = Unit {0}
 Answers bytes (Err (stop.NotUtf8 place)) = (length bytes ≤ 1048576) × FirstFault bytes (stop.NotUtf8 place)
 Answers bytes (Err (stop.BadToken place)) = (length bytes ≤ 1048576) × FirstFault bytes (stop.BadToken place)
 Answers bytes (Err (stop.NumberForm place)) = (length bytes ≤ 1048576) × FirstFault bytes (stop.NumberForm place)
+
+-- the answer is this one, unless memory runs out
+abbrev pub IsOnly : Result (List Token) LexStop → Result (List Token) LexStop → Type 0
+IsOnly r s = r ≢ Err stop.Memory → r ≡ s

@@ -1,8 +1,10 @@
 //! The tokens of a script.
-ghost use Rattle.std.specs.Prelude.{◌≡◌, ◌≤◌, ◌<◌, ◌+◌, ◌++◌, ℕ, false, length, take, slice_index, encode_utf8_all, IfOk, IfErr, MatchResult};
+ghost use Rattle.std.specs.Prelude.{◌≡◌, ◌≤◌, ◌<◌, ◌+◌, ◌++◌, ℕ, false, List, length, take, slice_index, encode_utf8_all, IfOk, IfErr, MatchResult};
 ghost use Rattle.std.specs.Str.{chars, IsUtf8};
+ghost use Rattle.js_lexer.specs.declared.Token.{Token};
+ghost use Rattle.js_lexer.specs.declared.LexStop.{LexStop};
 ghost use Rattle.js_lexer.specs.Tokens as spec;
-ghost use Rattle.js_lexer.specs.Tokens.{CutSo, Decodes, Answers};
+ghost use Rattle.js_lexer.specs.Tokens.{CutSo, Decodes, Answers, Tokens, FirstFault, IsOnly};
 
 use crate::chars::at;
 use crate::pieces::piece;
@@ -130,6 +132,18 @@ fn decode(alloc: Global, bytes: &[u8]) -> Result<(Vec<char>, bool), LexStop>
     }
 }
 
+/// The tokens of a script, or its first fault.
+fn read(alloc: Global, bytes: &[u8]) -> Result<Vec<Token>, LexStop>
+    ensures { Answers bytes.now (spec.items_of result) }
+{
+    if bytes.len() > MOST_BYTES {
+        return Err(LexStop::TooLarge);
+    }
+    let (text, broken) = decode(alloc, bytes)?;
+    let first = if at(&text, 0) == '\u{FEFF}' { 1 } else { 0 };
+    cut(alloc, &text, first, broken)
+}
+
 /// Cuts a script into its tokens, the last of which is `End` at the length of the bytes.
 ///
 /// It takes at most 1,048,576 bytes of UTF-8; one U+FEFF at the start is skipped. A place is a byte's
@@ -141,12 +155,9 @@ fn decode(alloc: Global, bytes: &[u8]) -> Result<(Vec<char>, bool), LexStop>
 /// those of ECMA-262, 3rd edition, section 7, less escapes in identifiers, octal and decimal
 /// fractions and exponents, and with the words of script calls.
 pub fn tokens(alloc: Global, bytes: &[u8]) -> Result<Vec<Token>, LexStop>
-    ensures { Answers bytes.now (spec.items_of result) }
+    ensures answer { Answers bytes.now (spec.items_of result) }
+    ensures tokens_only { (ts : List Token) → length bytes.now ≤ 1048576 → Tokens bytes.now ts → IsOnly (spec.items_of result) (Ok ts) }
+    ensures fault_only { (f : LexStop) → length bytes.now ≤ 1048576 → FirstFault bytes.now f → IsOnly (spec.items_of result) (Err f) }
 {
-    if bytes.len() > MOST_BYTES {
-        return Err(LexStop::TooLarge);
-    }
-    let (text, broken) = decode(alloc, bytes)?;
-    let first = if at(&text, 0) == '\u{FEFF}' { 1 } else { 0 };
-    cut(alloc, &text, first, broken)
+    read(alloc, bytes)
 }
