@@ -1,2 +1,5 @@
 pub mod Log
 pub mod Entries
+pub mod Unique
+pub mod Append
+pub mod GateLog

@@ -9,6 +9,7 @@ mod open;
 mod scan;
 
 pub use block::Block;
+pub use log::GateLog;
 
 
 
