@@ -38,10 +38,6 @@ pub entries-push : (bs : List Block) (b : Block) → entries (bs ++ b ∷ []) �
 entries-push [] b = refl
 entries-push (c ∷ bs) b = ap (λ (l : List (List ℕ)). entry_of c ∷ l) (entries-push bs b)
 
-pub shorts : (bs : List Block) → AreShort (entries bs)
-shorts [] = tt
-shorts (b ∷ bs) = (omega (arith, b.short, b.long, length-take (length b.bytes.items - 1 - 4) (drop 4 b.bytes.items), length-drop 4 b.bytes.items), shorts bs)
-
 pub blocks-append : (es : List (List ℕ)) (e rest : List ℕ) → blocks (es ++ e ∷ []) ++ rest ≡ blocks es ++ (165 ∷ (size_bytes (length e) ++ (e ++ rest)))
 blocks-append [] e rest =
     ap (λ (l : List ℕ). 165 ∷ l) (append_assoc (size_bytes (length e)) (e ++ []) rest ∙ ap (λ (l : List ℕ). size_bytes (length e) ++ (l ++ rest)) (append-nil e))

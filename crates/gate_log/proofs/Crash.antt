@@ -78,9 +78,9 @@ moments bytes moment left_since es e gate out small size spelt old new result ho
     let l = appends.any_moment only in
     let file_is = holds.4 in
     let each : (c : List ℕ) → (Torn (gate + 1) (length out) (bytes old) c ⊎ ((d : List ℕ) × Holds (gate + 1) out (bytes old) d × Torn gate 1 d c)) → WithOrWithout es e c = λ c h. ⊎_elim
-      (λ (torn : Torn (gate + 1) (length out) (bytes old) c). inl (torn_behind es e small gate size holds.0 holds.1 holds.2 holds.3 (length out) c (subst (λ (f : List ℕ). Torn (gate + 1) (length out) f c) file_is torn)))
-      (λ (w : (d : List ℕ) × Holds (gate + 1) out (bytes old) d × Torn gate 1 d c). torn_gate es e small gate size holds.0 holds.1 holds.2 holds.3 w.0 c (subst (λ (o : List ℕ). Holds (gate + 1) o (blocks es ++ holds.0 ∷ holds.1) w.0) spelt (subst (λ (f : List ℕ). Holds (gate + 1) out f w.0) file_is w.1)) w.2)
-      h in
+    (λ (torn : Torn (gate + 1) (length out) (bytes old) c). inl (torn_behind es e small gate size holds.0 holds.1 holds.2 holds.3 (length out) c (subst (λ (f : List ℕ). Torn (gate + 1) (length out) f c) file_is torn)))
+    (λ (w : (d : List ℕ) × Holds (gate + 1) out (bytes old) d × Torn gate 1 d c). torn_gate es e small gate size holds.0 holds.1 holds.2 holds.3 w.0 c (subst (λ (o : List ℕ). Holds (gate + 1) o (blocks es ++ holds.0 ∷ holds.1) w.0) spelt (subst (λ (f : List ℕ). Holds (gate + 1) out f w.0) file_is w.1)) w.2)
+    h in
     record { later = l.later; before = λ t c le left. ⊎_elim (λ h. inl h) (λ p. inr (each c p)) (l.before t c le left) }
 
 -- the end of one that was answered

@@ -7,6 +7,6 @@ use Rattle.disk_model.specs.Disk.{Torn, Holds, LeavesOnly}
 pub record Appends {T D E : Type 0} (bytes : D → List ℕ) (moment : D → ℕ) (left_since : D → ℕ → List ℕ → Type 0) (gate : ℕ) (block : List ℕ) (old new : D) (result : Result T E) : Type 0 where
   pub any_moment : ((c : List ℕ) → left_since old (moment old) c → c ≡ bytes old)
       → LeavesOnly moment left_since old new (λ c. Torn (gate + 1) (length block) (bytes old) c
-          ⊎ ((d : List ℕ) × Holds (gate + 1) block (bytes old) d × Torn gate 1 d c))
+      ⊎ ((d : List ℕ) × Holds (gate + 1) block (bytes old) d × Torn gate 1 d c))
   pub done : OnOk result ((d : List ℕ) × Holds (gate + 1) block (bytes old) d × Holds gate (165 ∷ []) d (bytes new)
       × ((c : List ℕ) → left_since new (moment new) c → c ≡ bytes new))

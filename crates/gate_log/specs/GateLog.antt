@@ -1,7 +1,7 @@
 -- A log and its disk. Own rules.
-use Rattle.std.specs.Prelude.{◌≡◌, ◌⊎◌, ◌+◌, ◌-◌, ◌^◌, ◌<◌, ◌≤◌, min, ℕ, Bool, true, false, List, [], ◌∷◌, ◌++◌, length, Result, OnOk, OnErr, IsErrOf, vec_len, vec_capacity}
+use Rattle.std.specs.Prelude.{◌≡◌, ◌⊎◌, ◌+◌, ◌-◌, ◌^◌, ◌<◌, ◌≤◌, min, ℕ, Bool, true, false, List, [], ◌∷◌, ◌++◌, length, Result, OnOk, OnErr, IsErrOf, vec_len, vec_capacity, ⊤, nat_le, if◌then◌else◌}
 use Rattle.disk_model.specs.Disk.{Rose}
-use Rattle.gate_log.specs.Log.{blocks, IsGated}
+use Rattle.gate_log.specs.Log.{blocks, IsGated, IsBroken}
 use Rattle.gate_log.specs.Entries.{entries}
 use Rattle.gate_log.specs.declared.LogStop.{LogStop}
 use Rattle.gate_log.specs.declared.LogStop.TheVariants.{Fault, Broken, Full, Closed, Memory}
@@ -38,3 +38,19 @@ IsCauseOf closed fits (Broken place) = ⊥
 IsCauseOf closed fits Full = (closed ≡ false) × (fits → ⊥)
 IsCauseOf closed fits Closed = closed ≡ true
 IsCauseOf closed fits Memory = (closed ≡ false) × fits
+
+-- when an opening may answer this
+abbrev pub IsRefusalOf : Type 0 → List ℕ → LogStop → Type 0
+IsRefusalOf tells bytes Fault = ⊤
+IsRefusalOf tells bytes (Broken place) = tells → (length bytes ≤ 67108864) × IsBroken bytes place
+IsRefusalOf tells bytes Full = tells → 67108864 < length bytes
+IsRefusalOf tells bytes Closed = ⊥
+IsRefusalOf tells bytes Memory = ⊤
+
+-- how many calls of write_at and sync an opening makes
+abbrev pub opening_calls : List ℕ → ℕ
+opening_calls bytes = if nat_le (length bytes) 1 then 3 else 1
+
+-- a file of at most one byte before and after: no entry in either
+abbrev pub AreBlank : List ℕ → List ℕ → Type 0
+AreBlank old new = (length old ≤ 1) × (length new ≤ 1)

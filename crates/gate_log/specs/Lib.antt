@@ -3,3 +3,4 @@ pub mod Entries
 pub mod Unique
 pub mod Append
 pub mod GateLog
+pub mod Some

@@ -28,8 +28,8 @@ parts (c ∷ a) (d ∷ b) x y same e =
     let more = parts a b x y (omega arith) (rests c d (a ++ x) (b ++ y) e) in
     ((λ i. heads c d (a ++ x) (b ++ y) e i ∷ more.0 i), more.1)
 
--- two entries behind their lengths
-two_entries : (e f x y : List ℕ) → length e < 2 ^ 32 → length f < 2 ^ 32 → size_bytes (length e) ++ (e ++ x) ≡ size_bytes (length f) ++ (f ++ y) → (e ≡ f) × (x ≡ y)
+-- no entry behind its length begins another
+pub two_entries : (e f x y : List ℕ) → length e < 2 ^ 32 → length f < 2 ^ 32 → size_bytes (length e) ++ (e ++ x) ≡ size_bytes (length f) ++ (f ++ y) → (e ≡ f) × (x ≡ y)
 two_entries e f x y short short_too is =
     let fronts = parts (size_bytes (length e)) (size_bytes (length f)) (e ++ x) (f ++ y) (length-size_bytes (length e) ∙ sym (length-size_bytes (length f))) is in
     parts e f x y (size_bytes-same (length e) (length f) short short_too fronts.0) fronts.1

@@ -29,7 +29,7 @@ impl GateLog {
     ghost use Rattle.gate_log.specs.GateLog.{entries_of, is_closed_of, IsOn, FitsIn, HasRoom, IsCaused, IsCauseOf};
 
     // A log of these blocks.
-    pub fn of(alloc: Global, kept: Vec<Block>, gate: usize, is_closed: bool) -> GateLog
+    pub(crate) fn of(alloc: Global, kept: Vec<Block>, gate: usize, is_closed: bool) -> GateLog
         requires at_gate { gate ≡ length (blocks (entries kept.items)) }
         requires within { gate < 67108864 }
         ensures entries { entries_of result ≡ entries kept.items }

@@ -5,7 +5,8 @@ use Rattle.gate_log.specs.Entries.{entries}
 use Rattle.gate_log.specs.declared.LogStop.{LogStop}
 use Rattle.gate_log.specs.declared.LogStop.TheVariants.{Memory, Broken}
 use Rattle.gate_log.specs.declared.block.Block.{Block}
-use Rattle.gate_log.proofs.Blocks.{Grown, grown, shorts}
+use Rattle.gate_log.proofs.Blocks.{Grown, grown}
+use Rattle.gate_log.specs.Some.{shorts}
 use Rattle.gate_log.proofs.scan.scan.Goals as goal
 
 broken_at : (bytes : List ℕ) (bs : List Block) (at : ℕ) → 1 < length bytes → Grown bytes bs at → get_or bytes at 0 ≡ 165 → NoBlock (drop (at + 1) bytes) → IsBroken bytes at
