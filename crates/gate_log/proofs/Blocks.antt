@@ -1,7 +1,7 @@
 -- Blocks at places of a file.
-use Rattle.std.proofs.Common.{◌≡◌, ◌≢◌, ◌⊎◌, inl, inr, ⊎_elim, ℕ, zero, suc, ◌+◌, ◌-◌, ◌^◌, ◌≤◌, ◌<◌, min, List, [], ◌∷◌, ◌++◌, length, get_or, take, drop, map, refl, sym, ◌∙◌, ap, subst, arith, append_assoc, length-append, length-take, length-drop, take-append-drop}
+use Rattle.std.proofs.Common.{◌≡◌, ℕ, ◌+◌, ◌-◌, ◌^◌, ◌≤◌, ◌<◌, List, [], ◌∷◌, ◌++◌, length, get_or, take, drop, refl, sym, ◌∙◌, ap, arith, append_assoc, length-append, length-take, length-drop, take-append-drop}
 use Rattle.std.proofs.lemmas.List.{take_at, drop_at, drop_more, take_all, append-nil}
-use Rattle.gate_log.specs.Log.{size_bytes, length-size_bytes, size_bytes-same, framed, blocks, AreShort, NoBlock, Begins}
+use Rattle.gate_log.specs.Log.{size_bytes, length-size_bytes, size_bytes-same, framed, blocks, NoBlock, Begins}
 use Rattle.gate_log.specs.Entries.{entry_of, entries}
 use Rattle.gate_log.specs.declared.block.Block.{Block}
 

@@ -1,10 +1,10 @@
 -- What an append leaves stands for the entries before it, with the new one or without.
-use Rattle.std.proofs.Common.{◌≡◌, ◌≢◌, ◌⊎◌, inl, inr, ⊎_elim, ℕ, suc, ◌+◌, ◌^◌, ◌<◌, ◌≤◌, max, List, [], ◌∷◌, ◌++◌, length, get_or, take, drop, Result, refl, sym, ◌∙◌, ap, subst, arith, append_assoc, length-append, length-drop, take-append-drop}
+use Rattle.std.proofs.Common.{◌≡◌, ◌≢◌, ◌⊎◌, inl, inr, ⊎_elim, ℕ, ◌+◌, ◌^◌, ◌<◌, ◌≤◌, List, [], ◌∷◌, ◌++◌, length, get_or, take, drop, Result, refl, sym, ◌∙◌, ap, subst, arith, append_assoc, length-append, take-append-drop}
 use Rattle.std.proofs.lemmas.Bool.{cases_eq}
 use Rattle.std.proofs.lemmas.List.{take_at, drop_at, drop_more}
 use Rattle.disk_model.specs.Disk.{Holds, Torn, LeavesOnly}
 use Rattle.gate_log.specs.Append.{Appends}
-use Rattle.gate_log.specs.Log.{size_bytes, length-size_bytes, framed, blocks, AreShort, IsGated, WithOrWithout}
+use Rattle.gate_log.specs.Log.{size_bytes, framed, blocks, AreShort, IsGated, WithOrWithout}
 use Rattle.gate_log.proofs.Blocks.{blocks-append}
 
 pub short-push : (es : List (List ℕ)) (e : List ℕ) → AreShort es → length e < 2 ^ 32 → AreShort (es ++ e ∷ [])

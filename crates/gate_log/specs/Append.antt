@@ -1,5 +1,5 @@
 -- What the four calls of an append leave. Own rules.
-use Rattle.std.specs.Prelude.{◌≡◌, ◌⊎◌, ◌+◌, ◌≤◌, ℕ, List, [], ◌∷◌, ◌++◌, length, take, drop, Result, OnOk}
+use Rattle.std.specs.Prelude.{◌≡◌, ◌⊎◌, ◌+◌, ℕ, List, [], ◌∷◌, length, Result, OnOk}
 use Rattle.disk_model.specs.Disk.{Torn, Holds, LeavesOnly}
 
 -- Where one image stood there, each image is that one after a torn write behind the gate, or that with the bytes

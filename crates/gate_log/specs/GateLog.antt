@@ -1,5 +1,5 @@
 -- A log and its disk. Own rules.
-use Rattle.std.specs.Prelude.{◌≡◌, ◌⊎◌, ◌+◌, ◌-◌, ◌^◌, ◌<◌, ◌≤◌, min, ℕ, Bool, true, false, List, [], ◌∷◌, ◌++◌, length, Result, OnOk, OnErr, IsErrOf, vec_len, vec_capacity, ⊤, nat_le, if◌then◌else◌}
+use Rattle.std.specs.Prelude.{◌≡◌, ◌+◌, ◌<◌, ◌≤◌, ℕ, Bool, true, false, List, length, Result, IsErrOf, vec_len, vec_capacity, ⊤, nat_le, if◌then◌else◌}
 use Rattle.disk_model.specs.Disk.{Rose}
 use Rattle.gate_log.specs.Log.{blocks, IsGated, IsBroken}
 use Rattle.gate_log.specs.Entries.{entries}

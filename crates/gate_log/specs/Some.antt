@@ -1,8 +1,8 @@
 -- The entries of a log are those of some bytes.
-use Rattle.std.specs.Prelude.{◌≡◌, ◌≢◌, ◌+◌, ◌-◌, ◌^◌, ◌<◌, ◌≤◌, ℕ, List, [], ◌∷◌, ◌++◌, length, take, drop, refl}
+use Rattle.std.specs.Prelude.{◌≡◌, ◌≢◌, ◌-◌, ◌≤◌, ℕ, List, [], ◌∷◌, ◌++◌, length, drop, refl}
 use Rattle.std.proofs.Common.{arith, sym, subst, length-append, length-take, length-drop}
 use Rattle.gate_log.specs.Log.{blocks, AreShort, IsGated}
-use Rattle.gate_log.specs.Entries.{entry_of, entries}
+use Rattle.gate_log.specs.Entries.{entries}
 use Rattle.gate_log.specs.GateLog.{entries_of, IsOn}
 use Rattle.gate_log.specs.declared.block.Block.{Block}
 use Rattle.gate_log.specs.declared.log.GateLog.{GateLog}

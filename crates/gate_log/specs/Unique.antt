@@ -1,6 +1,6 @@
 -- Bytes are the log of one list of entries at most, or broken at one place, and not both.
-use Rattle.std.specs.Prelude.{◌≡◌, ◌≢◌, ◌⊎◌, ◌+◌, ◌^◌, ◌<◌, ◌≤◌, ℕ, List, [], ◌∷◌, ◌++◌, length, refl}
-use Rattle.std.proofs.Common.{sym, ◌∙◌, ap, subst, arith, suc, append_assoc, inl, inr, length-append}
+use Rattle.std.specs.Prelude.{◌≡◌, ◌≢◌, ◌^◌, ◌<◌, ◌≤◌, ℕ, List, [], ◌∷◌, ◌++◌, length, refl}
+use Rattle.std.proofs.Common.{sym, ◌∙◌, ap, arith, append_assoc, inl, inr, length-append}
 use Rattle.gate_log.specs.Log.{size_bytes, length-size_bytes, size_bytes-same, blocks, AreShort, IsGated, IsLog, NoBlock, IsBroken}
 
 head_of : List ℕ → ℕ

@@ -1,4 +1,4 @@
-use Rattle.std.proofs.Common.{rules, arith, ◌≡◌, ◌<◌, ◌∙◌, ap, sym, subst, [], ◌∷◌, ◌++◌, List, ℕ, length, take, drop, append_assoc, length-append}
+use Rattle.std.proofs.Common.{arith, ◌∙◌, ap, ◌∷◌, ◌++◌, List, ℕ, length, take, length-append}
 use Rattle.gate_log.specs.Log.{framed, size_bytes, length-size_bytes}
 use Rattle.gate_log.proofs.Blocks.{too_short, block_found, rest_is}
 use Rattle.gate_log.proofs.block.block_at.Goals as goal

@@ -1,4 +1,4 @@
-use Rattle.std.proofs.Common.{◌≡◌, ◌∙◌, ap, sym, List, ℕ, arith}
+use Rattle.std.proofs.Common.{arith}
 use Rattle.std.proofs.lemmas.Nat.{be_bytes_4}
 use Rattle.gate_log.specs.Log.{size_bytes}
 use Rattle.gate_log.proofs.block.size_at.Goals as goal

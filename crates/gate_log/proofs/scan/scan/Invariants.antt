@@ -1,4 +1,4 @@
-use Rattle.std.proofs.Common.{ℕ, length, ◌-◌}
+use Rattle.std.proofs.Common.{length, ◌-◌}
 use Rattle.gate_log.proofs.Blocks.{Grown}
 use Rattle.gate_log.proofs.scan.scan.Given as goal
 

@@ -1,7 +1,6 @@
-use Rattle.std.proofs.Common.{rules, arith, ◌≡◌, ◌≤◌, ◌<◌, ◌+◌, ◌^◌, ◌++◌, ◌∷◌, [], ℕ, List, length, ap, sym, subst, ◌∙◌}
+use Rattle.std.proofs.Common.{rules, arith, ◌≡◌, ◌+◌, ◌++◌, ◌∷◌, [], ℕ, List, length, ap, sym, subst, ◌∙◌}
 use Rattle.gate_log.specs.Log.{blocks, framed, IsGated}
-use Rattle.gate_log.specs.Entries.{entries, entry_of}
-use Rattle.gate_log.specs.GateLog.{entries_of}
+use Rattle.gate_log.specs.Entries.{entries}
 use Rattle.gate_log.specs.declared.block.Block.{Block}
 use Rattle.gate_log.proofs.Blocks.{entry_framed, entries-push, length-blocks, length-framed}
 use Rattle.gate_log.proofs.Crash.{moments, added}
