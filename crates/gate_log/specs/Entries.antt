@@ -1,5 +1,5 @@
 -- The entries of blocks. Own rules.
-use Rattle.std.specs.Prelude.{◌≡◌, ◌+◌, ◌-◌, ℕ, List, length, take, drop, map}
+use Rattle.std.specs.Prelude.{◌-◌, ℕ, List, length, take, drop, map}
 use Rattle.gate_log.specs.declared.block.Block.{Block}
 
 -- what stands between the length and the closed gate

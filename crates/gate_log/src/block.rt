@@ -49,6 +49,16 @@ pub fn block_of(mut out: Vec<u8>, entry: &[u8]) -> Result<Block, NoMemory>
     Ok(Block { bytes: out })
 }
 
+// The length that four bytes say.
+fn size_at(front: &[u8]) -> usize
+    requires { length front.now ≡ 4 }
+    ensures size { size_bytes result ≡ front.now }
+    ensures small { result < 2 ^ 32 }
+{
+    let size = u32::from_be_bytes([front[0], front[1], front[2], front[3]]);
+    size as usize
+}
+
 // The block that stands behind an open gate, where it and a gate behind it are whole.
 pub fn block_at(alloc: Global, bytes: &[u8]) -> Result<Option<Block>, NoMemory>
     ensures { IfOk result (λ found. MatchOption found (NoBlock bytes.now) (λ b. Begins b.bytes.items bytes.now)) }
@@ -56,7 +66,7 @@ pub fn block_at(alloc: Global, bytes: &[u8]) -> Result<Option<Block>, NoMemory>
     if bytes.len() < 4 {
         return Ok(None);
     }
-    let size = u32::from_be_bytes([bytes[0], bytes[1], bytes[2], bytes[3]]) as usize;
+    let size = size_at(&bytes[..4]);
     let rest = &bytes[4..];
     if rest.len() <= size {
         return Ok(None);

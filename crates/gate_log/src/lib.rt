@@ -7,10 +7,12 @@ mod block;
 mod log;
 mod open;
 mod scan;
+#[cfg(test)]
+mod tests;
 
 pub use block::Block;
-
-
+pub use log::GateLog;
+pub use open::{look, open_log};
 
 /// Why a log refused a call.
 #[derive(Clone, Copy, Debug, PartialEq, Eq, Drop)]
