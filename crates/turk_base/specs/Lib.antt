@@ -1,0 +1,12 @@
+pub mod Cells
+pub mod Conversions
+pub mod Data
+pub mod DataFalls
+pub mod Names
+pub mod Node
+pub mod Operators
+pub mod Prog
+pub mod SessionName
+pub mod State
+pub mod Values
+pub mod Whole
