@@ -8,5 +8,6 @@ pub mod Operators
 pub mod Prog
 pub mod SessionName
 pub mod State
+pub mod Trace
 pub mod Values
 pub mod Whole
