@@ -16,15 +16,23 @@ abbrev pub ◌>>=◌ : {A B : Type 0} → Option A → (A → Option B) → Opti
 None >>= f = None
 (Some x) >>= f = f x
 
+-- what a stop says of reading
+abbrev pub Fails : {Y : Type 0} → ReadStop → Option Y → Type 0
+Fails Bad read = read ≡ None
+Fails Memory read = Unit {0}
+
 -- what a function returned, seen by view, is what reading gives, unless memory ran out
 abbrev pub Gives : {X Y : Type 0} → (X → Y) → Result X ReadStop → Option Y → Type 0
 Gives view (Ok x) read = read ≡ Some (view x)
-Gives view (Err Bad) read = read ≡ None
-Gives view (Err Memory) read = Unit {0}
+Gives view (Err e) read = Fails e read
 
 -- a value and the bytes after it
 abbrev pub Reader : Type 0 → Type 0
 Reader A = List ℕ → Option (A × List ℕ)
+
+abbrev pub byte_at : Reader ℕ
+byte_at [] = None
+byte_at (b ∷ rest) = Some (b, rest)
 
 abbrev pub number_at : Width → Reader ℕ
 number_at w bytes = if nat_lt (length bytes) (byte_len w) then None else Some (from_be_bytes w (take (byte_len w) bytes), drop (byte_len w) bytes)
@@ -68,6 +76,13 @@ items_at read (suc n) bytes = do
   ds ← items_at read n d.1
   Some (d.0 ∷ ds.0, ds.1)
 
+-- a field is a text and data
+abbrev pub keyed : List ℕ → Data × List ℕ → Option ((List ℕ × Data) × List ℕ)
+keyed k d = Some ((k, d.0), d.1)
+
+abbrev pub field_at : Reader Data → Reader (List ℕ × Data)
+field_at read bytes = text_at bytes >>= λ k. read k.1 >>= keyed k.0
+
 unfoldable pub fields_at : Reader Data → ℕ → Reader (List (List ℕ × Data))
 fields_at read zero bytes = Some ([], bytes)
 fields_at read (suc n) bytes = do
@@ -105,13 +120,17 @@ tagged_at parts (suc (suc (suc (suc (suc (suc (suc zero))))))) rest = deeper par
 tagged_at parts (suc (suc (suc (suc (suc (suc (suc (suc n)))))))) rest = None
 
 abbrev pub data_with : Option (Reader Data) → Reader Data
-data_with parts [] = None
-data_with parts (tag ∷ rest) = tagged_at parts tag rest
+data_with parts bytes = byte_at bytes >>= λ b. tagged_at parts b.0 b.1
 
 -- data of at most this nesting
 unfoldable pub data_at : ℕ → Reader Data
 data_at zero bytes = data_with None bytes
 data_at (suc nesting) bytes = data_with (Some (data_at nesting)) bytes
+
+-- the reader of the parts of data of at most this nesting
+abbrev pub parts_at : ℕ → Option (Reader Data)
+parts_at zero = None
+parts_at (suc nesting) = Some (data_at nesting)
 
 -- a draw's bound and value
 unfoldable pub draw_at : Reader Record
@@ -135,10 +154,10 @@ body_at (suc (suc (suc (suc zero)))) rest = data_at 64 rest >>= λ d. Some (Once
 body_at (suc (suc (suc (suc (suc n))))) rest = None
 
 unfoldable pub entry_at : Reader Entry
-entry_at [] = None
-entry_at (kind ∷ rest) = do
-  p ← path_at rest
-  r ← body_at kind p.1
+entry_at bytes = do
+  kind ← byte_at bytes
+  p ← path_at kind.1
+  r ← body_at kind.0 p.1
   Some (record { path = p.0; what = r.0 }, r.1)
 
 unfoldable pub task_at : Reader (List ℕ × List ℕ)

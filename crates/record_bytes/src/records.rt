@@ -5,10 +5,11 @@ ghost use Rattle.record_bytes.specs.Spelling.{body_bytes, entry_bytes, kind_of};
 ghost use Rattle.record_bytes.specs.Limits.{IsWithin, IsRecordWithin, IsRecord, Spells};
 
 use crate::texts::{put, put_number, put_path, put_text};
-use crate::trees::put_data;
+use crate::trees::put_node;
 use std::alloc::Global;
 use turk_base::{Entry, NoMemory, Record};
 
+#[tactic(auto, unfolding(crate::specs::Spelling::body_bytes))]
 fn put_body(out: &mut Vec<u8>, what: &Record) -> Result<(), NoMemory>
     requires { IsRecordWithin what.now }
     ensures { OnOk result ((out.new.items ≡ out.old.items ++ body_bytes what.now) × IsRecord what.now) }
@@ -23,7 +24,7 @@ fn put_body(out: &mut Vec<u8>, what: &Record) -> Result<(), NoMemory>
             put_number(out, *bound)?;
             put_number(out, *value)
         }
-        Record::Once(data) => put_data(out, data, 64),
+        Record::Once(data) => put_node(out, data.node(), 64),
     }
 }
 
@@ -39,6 +40,7 @@ fn kind_of(what: &Record) -> u8
 }
 
 /// The one spelling of a record, which is within the limits.
+#[tactic(auto, unfolding(crate::specs::Spelling::entry_bytes))]
 pub fn encode(alloc: Global, entry: &Entry) -> Result<Vec<u8>, NoMemory>
     requires { IsWithin entry.now }
     ensures { IfOk result (λ v. Spells v.items entry.now) }

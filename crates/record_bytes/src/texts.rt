@@ -5,7 +5,7 @@ ghost use Rattle.std.specs.List.{flat_map, AllByRecursion};
 ghost use Rattle.std.specs.Int.{w16, w32, w64, to_be_bytes};
 ghost use Rattle.record_bytes.specs.Spelling.{text_bytes, path_bytes, number_bytes, twos_complement};
 ghost use Rattle.record_bytes.specs.Limits.{IsTextWithin, AreUnits};
-ghost use Rattle.record_bytes.specs.Reading.{Gives, number_at, numbers_at, text_at, path_at, whole_at, whole_from};
+ghost use Rattle.record_bytes.specs.Reading.{Gives, byte_at, number_at, numbers_at, text_at, path_at, whole_at, whole_from};
 ghost use Rattle.turk_base.specs.Whole.{IsWhole};
 
 use crate::stop::ReadStop;
@@ -44,6 +44,7 @@ fn put_u32s(out: &mut Vec<u8>, numbers: &[u32]) -> Result<(), NoMemory>
     Ok(())
 }
 
+#[tactic(auto, unfolding(crate::specs::Spelling::text_bytes))]
 pub(crate) fn put_text(out: &mut Vec<u8>, text: &Units) -> Result<(), NoMemory>
     requires { IsTextWithin text.now }
     ensures bytes { OnOk result (out.new.items ≡ out.old.items ++ text_bytes text.now) }
@@ -55,6 +56,7 @@ pub(crate) fn put_text(out: &mut Vec<u8>, text: &Units) -> Result<(), NoMemory>
     put_u16s(out, units)
 }
 
+#[tactic(auto, unfolding(crate::specs::Spelling::path_bytes))]
 pub(crate) fn put_path(out: &mut Vec<u8>, path: &Path) -> Result<(), NoMemory>
     requires { length path.now ≤ 800 }
     ensures bytes { OnOk result (out.new.items ≡ out.old.items ++ path_bytes path.now) }
@@ -77,11 +79,21 @@ fn bits_of(number: i64) -> u64
     }
 }
 
+#[tactic(auto, unfolding(crate::specs::Spelling::number_bytes))]
 pub(crate) fn put_number(out: &mut Vec<u8>, number: Whole) -> Result<(), NoMemory>
     ensures bytes { OnOk result (out.new.items ≡ out.old.items ++ number_bytes number) }
     ensures number { IsWhole number }
 {
     put(out, &bits_of(number.get()).to_be_bytes())
+}
+
+pub(crate) fn byte_of(bytes: &[u8]) -> Result<(u8, &[u8]), ReadStop>
+    ensures { Gives (λ x. (x.0, x.1.now)) result (byte_at bytes.now) }
+{
+    match bytes.split_first() {
+        Some((byte, rest)) => Ok((*byte, rest)),
+        None => Err(ReadStop::Bad),
+    }
 }
 
 fn u16_of(bytes: &[u8]) -> Result<(u16, &[u8]), ReadStop>
