@@ -16,7 +16,7 @@ use Rattle.turk_base.specs.declared.Record.{Record}
 use Rattle.turk_base.specs.declared.Record.TheVariants.{Post, Reply, Draw, Once}
 use Rattle.record_bytes.specs.Spelling.{text_bytes, path_bytes, twos_complement, number_bytes, count_items, count_fields, data_bytes, items_bytes, fields_bytes, kind_of, body_bytes, entry_bytes, task_bytes}
 use Rattle.record_bytes.specs.Limits.{IsTextWithin, AreUnits, IsDataWithin, AreItemsWithin, AreFieldsWithin, IsDraw, IsRecordWithin, IsWithin, IsData, AreItems, AreFields, IsRecord, IsEntry, Spells, SpellsTask}
-use Rattle.record_bytes.specs.Reading.{◌>>=◌, Reader, byte_at, number_at, numbers_at, text_at, path_at, whole_from, whole_at, are_distinct, items_at, keyed, field_at, fields_at, list_with, fields_with, deeper, tagged_at, data_with, data_at, parts_at, draw_at, reply_at, body_at, entry_at, task_at}
+use Rattle.record_bytes.specs.Reading.{◌>>=◌, Reader, byte_at, number_at, numbers_at, text_at, path_at, whole_from, whole_at, are_distinct, items_at, keyed, field_at, fields_at, list_with, fields_with, deeper, tagged_at, data_with, data_at, parts_at, draw_at, reply_at, body_at, entry_at, task_pair, task_at}
 
 -- a width, and how many numbers it holds
 pub record Holds (w : Width) (limit : ℕ) : Type 0 where
@@ -183,3 +183,42 @@ mutual
   pub pairs_again : (fields : Fields) (n : ℕ) (rest : List ℕ) → nesting_fields fields ≤ n → AreFieldsWithin fields → AreFields fields → fields_at (data_at n) (count_fields fields) (fields_bytes fields ++ rest) ≡ Some (pairs_of fields, rest)
   pairs_again NoFields n rest deep within is = refl
   pairs_again (Field key d more) n rest deep within is = field_then (data_at n) (count_fields more) key d (pairs_of more) (text_bytes key) (data_bytes d) (fields_bytes more) rest (text_again key (data_bytes d ++ (fields_bytes more ++ rest)) within.0 is.0) (data_again d n (fields_bytes more ++ rest) (omega arith) within.1.0 is.1.0) (pairs_again more n rest (omega arith) within.1.1 is.1.1)
+
+-- ---- records and tasks
+
+draw_again : (b v : ℤ) (rest : List ℕ) → IsDraw b v → draw_at ((number_bytes b ++ number_bytes v) ++ rest) ≡ Some (Draw b v, rest)
+unfolding draw_at number_bytes
+draw_again (pos b) (pos v) rest is =
+    let regrouped : (to_be_bytes w64 b ++ to_be_bytes w64 v) ++ rest ≡ to_be_bytes w64 b ++ (to_be_bytes w64 v ++ rest) = append_assoc (to_be_bytes w64 b) (to_be_bytes w64 v) rest in
+    let fits : (ltb v b && leb b (2 ^ 53)) ≡ true = rw (lt-ltb v b is.0, le-leb b (2 ^ 53) is.1) refl in
+    ap draw_at regrouped ∙ ap (λ o. o >>= λ x. number_at w64 x.1 >>= λ y. cond (ltb y.0 x.0 && leb x.0 (2 ^ 53)) (Some (Draw (pos x.0) (pos y.0), y.1)) None) (number_again w64 (2 ^ 64) holds64 b (to_be_bytes w64 v ++ rest) (omega (arith, is.0, is.1)))
+    ∙ ap (λ o. o >>= λ y. cond (ltb y.0 b && leb b (2 ^ 53)) (Some (Draw (pos b) (pos y.0), y.1)) None) (number_again w64 (2 ^ 64) holds64 v rest (omega (arith, is.0, is.1))) ∙ ap (λ t. cond t (Some (Draw (pos b) (pos v), rest)) None) fits
+draw_again (pos b) (negsuc v) rest is = absurd is
+draw_again (negsuc b) v rest is = absurd is
+
+reply_again : (k t rest : List ℕ) → IsTextWithin k × IsTextWithin t → AreUnits k × AreUnits t → reply_at ((text_bytes k ++ text_bytes t) ++ rest) ≡ Some (Reply k t, rest)
+unfolding reply_at
+reply_again k t rest within is =
+    ap reply_at (append_assoc (text_bytes k) (text_bytes t) rest) ∙ ap (λ o. o >>= λ x. text_at x.1 >>= λ y. Some (Reply x.0 y.0, y.1)) (text_again k (text_bytes t ++ rest) within.0 is.0) ∙ ap (λ o. o >>= λ y. Some (Reply k y.0, y.1)) (text_again t rest within.1 is.1)
+
+body_again : (r : Record) (rest : List ℕ) → IsRecordWithin r → IsRecord r → body_at (kind_of r) (body_bytes r ++ rest) ≡ Some (r, rest)
+unfolding body_bytes
+body_again (Post t) rest within is = ap (λ o. o >>= λ x. Some (Post x.0, x.1)) (text_again t rest within is)
+body_again (Reply k t) rest within is = reply_again k t rest within is
+body_again (Draw b v) rest within is = draw_again b v rest within
+body_again (Once d) rest within is = ap (λ o. o >>= λ x. Some (Once x.0, x.1)) (data_again d 64 rest within.0 within.1 is)
+
+abbrev entry_of : List ℕ → Record → Entry
+entry_of p r = record { path = p; what = r }
+
+pub entry_again : (e : Entry) (rest : List ℕ) → IsWithin e → IsEntry e → entry_at (entry_bytes e ++ rest) ≡ Some (e, rest)
+unfolding entry_at entry_bytes
+entry_again e rest within is =
+    let kind = kind_of e.what in
+    let regrouped : (kind ∷ path_bytes e.path ++ body_bytes e.what) ++ rest ≡ kind ∷ (path_bytes e.path ++ (body_bytes e.what ++ rest)) = ap (λ (l : List ℕ). kind ∷ l) (append_assoc (path_bytes e.path) (body_bytes e.what) rest) in
+    ap entry_at regrouped ∙ ap (λ o. o >>= λ p. body_at kind p.1 >>= λ r. Some (entry_of p.0 r.0, r.1)) (path_again e.path (body_bytes e.what ++ rest) within.some within.short is.path) ∙ ap (λ o. o >>= λ r. Some (entry_of e.path r.0, r.1)) (body_again e.what rest within.what is.what)
+
+pub task_again : (k t rest : List ℕ) → IsTextWithin k → IsTextWithin t → AreUnits k → AreUnits t → task_at (task_bytes k t ++ rest) ≡ Some ((k, t), rest)
+unfolding task_at task_bytes
+task_again k t rest k_within t_within k_is t_is =
+    ap task_at (append_assoc (text_bytes k) (text_bytes t) rest) ∙ ap (λ o. o >>= λ x. text_at x.1 >>= λ y. task_pair x.0 y) (text_again k (text_bytes t ++ rest) k_within k_is) ∙ ap (λ o. o >>= λ y. task_pair k y) (text_again t rest t_within t_is)

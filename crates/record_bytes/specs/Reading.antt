@@ -160,11 +160,11 @@ entry_at bytes = do
   r ← body_at kind.0 p.1
   Some (record { path = p.0; what = r.0 }, r.1)
 
+abbrev pub task_pair : List ℕ → List ℕ × List ℕ → Option ((List ℕ × List ℕ) × List ℕ)
+task_pair k t = Some ((k, t.0), t.1)
+
 unfoldable pub task_at : Reader (List ℕ × List ℕ)
-task_at bytes = do
-  k ← text_at bytes
-  t ← text_at k.1
-  Some ((k.0, t.0), t.1)
+task_at bytes = text_at bytes >>= λ k. text_at k.1 >>= task_pair k.0
 
 -- what is read, where nothing follows it
 abbrev pub only : {A : Type 0} → A × List ℕ → Option A

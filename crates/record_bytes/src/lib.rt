@@ -9,6 +9,7 @@ mod texts;
 mod trees;
 
 pub use records::{decode, encode};
+pub use tasks::{decode_task, encode_task};
 
 use turk_base::{Bytes, Name};
 

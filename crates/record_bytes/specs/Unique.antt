@@ -1,0 +1,33 @@
+-- Bytes spell one value at most, and no spelling of a record or a task begins another.
+use Rattle.std.proofs.Common.{◌≡◌, ℕ, ◌+◌, ◌^◌, ◌<◌, ◌≤◌, List, [], ◌∷◌, ◌++◌, length, Option, Some, None, refl, sym, ap, subst, ◌∙◌, append_assoc, arith}
+use Rattle.std.proofs.lemmas.List.{append-nil}
+use Rattle.turk_base.specs.declared.Entry.{Entry}
+use Rattle.record_bytes.specs.Spelling.{entry_bytes, task_bytes}
+use Rattle.record_bytes.specs.Limits.{Spells, SpellsTask}
+use Rattle.record_bytes.specs.Reading.{entry_at, task_at}
+use Rattle.record_bytes.specs.Again.{entry_again, task_again}
+
+abbrev read : {A : Type 0} → A → List ℕ → Option (A × List ℕ)
+read x rest = Some (x, rest)
+
+value_in : {A : Type 0} → A → Option (A × List ℕ) → A
+value_in x None = x
+value_in x (Some p) = p.0
+
+rest_in : {A : Type 0} → Option (A × List ℕ) → List ℕ
+rest_in None = []
+rest_in (Some p) = p.1
+
+some_is : {A : Type 0} (x y : A) (a b : List ℕ) → read x a ≡ read y b → (x ≡ y) × (a ≡ b)
+unfolding value_in rest_in
+some_is x y a b e = (ap (value_in x) e, ap rest_in e)
+
+-- no spelling begins another
+pub no_front : (a b x y : List ℕ) (e f : Entry) → Spells a e → Spells b f → a ++ x ≡ b ++ y → (e ≡ f) × (x ≡ y)
+no_front a b x y e f of_e of_f same =
+    let first : entry_at (a ++ x) ≡ Some (e, x) = ap (λ (l : List ℕ). entry_at (l ++ x)) of_e.bytes_are ∙ entry_again e x of_e.within of_e.typed in
+    let second : entry_at (b ++ y) ≡ Some (f, y) = ap (λ (l : List ℕ). entry_at (l ++ y)) of_f.bytes_are ∙ entry_again f y of_f.within of_f.typed in
+    some_is e f x y (sym first ∙ ap entry_at same ∙ second)
+
+pub one_entry : (bytes : List ℕ) (e f : Entry) → Spells bytes e → Spells bytes f → e ≡ f
+one_entry bytes e f of_e of_f = (no_front bytes bytes [] [] e f of_e of_f refl).0
