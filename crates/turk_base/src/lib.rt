@@ -15,10 +15,14 @@ use std::marker::Model;
 mod byte_lists;
 mod names;
 mod paths;
+mod records;
 mod reply_lists;
 mod texts;
+mod tokens;
 mod trees;
 mod wholes;
+
+pub use tokens::token;
 
 /// Want of memory.
 #[derive(Clone, Copy, Debug, Drop, PartialEq, Eq)]

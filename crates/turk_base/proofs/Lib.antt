@@ -1,0 +1,2 @@
+mod Falling
+mod Finding
