@@ -1,20 +1,19 @@
 -- Scans of a trace, entry by entry.
 use Rattle.std.proofs.Common.{◌≡◌, ◌≢◌, ◌↔◌, ℕ, ◌+◌, ◌<◌, ◌≤◌, Bool, true, false, cond, ◌&&◌, ◌||◌, List, [], ◌∷◌, ◌++◌, length, get_or, take, drop, Option, Some, None, refl, sym, ap, subst, ◌∙◌, arith, length-append, append_assoc, take-append-drop, ◌⊎◌, inl, inr}
-use Rattle.std.specs.Prelude.{nat_eq, nat_lt}
-use Rattle.std.specs.List.{starts_with}
+use Rattle.std.specs.Prelude.{nat_eq, not as flip}
 use Rattle.std.specs.Cmp.Lexicographic.{pointwise}
 use Rattle.std.proofs.lemmas.Bool.Decides.{Decides-eqb}
-use Rattle.std.proofs.lemmas.Bool.{false≢true, lt-ltb}
+use Rattle.std.proofs.lemmas.Bool.{false≢true}
 use Rattle.std.proofs.lemmas.Slice.Eq.{slice_eq-Decides}
 use Rattle.std.proofs.lemmas.List.{at_drop_more, append-nil, drop_more, drop_all, take_at, take_all, take_more, nil_from_length}
 use Rattle.turk_base.specs.declared.Entry.{Entry}
 use Rattle.turk_base.specs.declared.Record.{Record}
-use Rattle.turk_base.specs.Trace.{at, below}
+use Rattle.turk_base.specs.Trace.{at, below, begins, same_list}
 use Rattle.std.specs.Prelude.{slice_get}
 use Rattle.std.proofs.lemmas.Option.{slice_get_read}
 use Rattle.trace_tree.specs.Spots.{path_in, StandsAt}
 use Rattle.trace_tree.specs.Traces.{Begins, StandsNone, HasDistinctPaths}
-use Rattle.trace_tree.proofs.Fronts.{test_by_begins, test_by_not, begins_by_test}
+use Rattle.trace_tree.proofs.Fronts.{begins_true, begins_false}
 
 same : (a b : List ℕ) → a ≡ b → pointwise nat_eq a b ≡ true
 same a b is = (slice_eq-Decides Decides-eqb a b (pointwise nat_eq a b) refl).1 is
@@ -33,10 +32,10 @@ at_hit e es p is = ap (λ b. cond b (Some e.what) (at es p)) (same e.path p is)
 pub at_skip : (e : Entry) (es : List Entry) (p : List ℕ) → e.path ≢ p → at (e ∷ es) p ≡ at es p
 at_skip e es p not = ap (λ b. cond b (Some e.what) (at es p)) (other e.path p not)
 
-pub below_skip : (e : Entry) (es : List Entry) (p : List ℕ) → (starts_with nat_eq e.path p && nat_lt (length p) (length e.path)) ≡ false → below (e ∷ es) p ≡ below es p
+pub below_skip : (e : Entry) (es : List Entry) (p : List ℕ) → (begins p e.path && flip (same_list p e.path)) ≡ false → below (e ∷ es) p ≡ below es p
 below_skip e es p not = ap (λ b. b || below es p) not
 
-pub below_hit : (e : Entry) (es : List Entry) (p : List ℕ) → (starts_with nat_eq e.path p && nat_lt (length p) (length e.path)) ≡ true → below (e ∷ es) p ≡ true
+pub below_hit : (e : Entry) (es : List Entry) (p : List ℕ) → (begins p e.path && flip (same_list p e.path)) ≡ true → below (e ∷ es) p ≡ true
 below_hit e es p longer = ap (λ b. b || below es p) longer
 
 
@@ -50,11 +49,11 @@ pub passed_at : (es : List Entry) (i : ℕ) (e : Entry) (p : List ℕ) → i < l
 passed_at es i e p lt is there so_far =
     sym (at_drop_more (λ (l : List Entry). at l p) es i e lt ∙ ap (λ (x : Entry). at (x ∷ drop (i + 1) es) p) (sym is) ∙ at_skip e (drop (i + 1) es) p there) ∙ so_far
 
-pub found_below : (es : List Entry) (i : ℕ) (e : Entry) (p : List ℕ) → i < length es → e ≡ get_or es i e → (starts_with nat_eq e.path p && nat_lt (length p) (length e.path)) ≡ true → below (drop i es) p ≡ below es p → true ≡ below es p
+pub found_below : (es : List Entry) (i : ℕ) (e : Entry) (p : List ℕ) → i < length es → e ≡ get_or es i e → (begins p e.path && flip (same_list p e.path)) ≡ true → below (drop i es) p ≡ below es p → true ≡ below es p
 found_below es i e p lt is here so_far =
     sym (at_drop_more (λ (l : List Entry). below l p) es i e lt ∙ ap (λ (x : Entry). below (x ∷ drop (i + 1) es) p) (sym is) ∙ below_hit e (drop (i + 1) es) p here) ∙ so_far
 
-pub passed_below : (es : List Entry) (i : ℕ) (e : Entry) (p : List ℕ) → i < length es → e ≡ get_or es i e → (starts_with nat_eq e.path p && nat_lt (length p) (length e.path)) ≡ false → below (drop i es) p ≡ below es p → below (drop (i + 1) es) p ≡ below es p
+pub passed_below : (es : List Entry) (i : ℕ) (e : Entry) (p : List ℕ) → i < length es → e ≡ get_or es i e → (begins p e.path && flip (same_list p e.path)) ≡ false → below (drop i es) p ≡ below es p → below (drop (i + 1) es) p ≡ below es p
 passed_below es i e p lt is there so_far =
     sym (at_drop_more (λ (l : List Entry). below l p) es i e lt ∙ ap (λ (x : Entry). below (x ∷ drop (i + 1) es) p) (sym is) ∙ below_skip e (drop (i + 1) es) p there) ∙ so_far
 
@@ -73,18 +72,18 @@ begins_stands e es p (rest, is) none = by_rest rest is
         let nothing = none.here in
         absurd (cc)
     by_rest (x ∷ xs) here =
-        let starts : starts_with nat_eq e.path p ≡ true = test_by_begins e.path p (x ∷ xs, here) in
-        let longer : nat_lt (length p) (length e.path) ≡ true = lt-ltb _ _ (omega (arith, ap length here, length-append p (x ∷ xs))) in
-        absurd (false≢true (sym none.longer ∙ below_hit e es p (rw (starts, longer) refl)))
+        let starts : begins p e.path ≡ true = begins_true p e.path (x ∷ xs, here) in
+        let apart : same_list p e.path ≡ false = other p e.path (λ same. absurd (omega (arith, ap length same, ap length here, length-append p (x ∷ xs)))) in
+        absurd (false≢true (sym none.longer ∙ below_hit e es p (ap (λ b. b && flip (same_list p e.path)) starts ∙ ap (λ b. flip b) apart)))
 
 pub skips_none : (e : Entry) (es : List Entry) (p : List ℕ) → (Begins p e.path → ⊥) → StandsNone es p → StandsNone (e ∷ es) p
 skips_none e es p not none =
-    record { here = at_skip e es p (λ is. not (self_begins p e.path is)) ∙ none.here; longer = below_skip e es p (ap (λ b. b && nat_lt (length p) (length e.path)) (test_by_not e.path p not)) ∙ none.longer }
+    record { here = at_skip e es p (λ is. not (self_begins p e.path is)) ∙ none.here; longer = below_skip e es p (ap (λ b. b && flip (same_list p e.path)) (begins_false p e.path not)) ∙ none.longer }
 
 pub none_back : (e : Entry) (es : List Entry) (p : List ℕ) → StandsNone (e ∷ es) p → (Begins p e.path → ⊥) × StandsNone es p
 none_back e es p none =
     let not : Begins p e.path → ⊥ = λ b. begins_stands e es p b none in
-    (not, record { here = sym (at_skip e es p (λ is. not (self_begins p e.path is))) ∙ none.here; longer = sym (below_skip e es p (ap (λ b. b && nat_lt (length p) (length e.path)) (test_by_not e.path p not))) ∙ none.longer })
+    (not, record { here = sym (at_skip e es p (λ is. not (self_begins p e.path is))) ∙ none.here; longer = sym (below_skip e es p (ap (λ b. b && flip (same_list p e.path)) (begins_false p e.path not))) ∙ none.longer })
 
 pub skips_back : (e : Entry) (es : List Entry) (p : List ℕ) → (Begins p e.path → ⊥) → StandsNone (e ∷ es) p ↔ StandsNone es p
 skips_back e es p not = ((λ none. (none_back e es p none).1), (λ none. skips_none e es p not none))

@@ -6,10 +6,9 @@ mod spot;
 
 pub use spot::Spot;
 
-ghost use Rattle.std.specs.Prelude.{◌≡◌, ◌≢◌, ◌↔◌, ◌++◌, [], ◌∷◌, ◌≤◌, ◌<◌, List, ℕ, length, take, false, Some, None, IfSome, IfNone, IfErr, IsNone, OnOk, OnErr, IsTrue, slice_get, nat_eq, nat_lt, ◌&&◌};
-ghost use Rattle.std.specs.List.{starts_with};
+ghost use Rattle.std.specs.Prelude.{◌≡◌, ◌≢◌, ◌↔◌, ◌++◌, [], ◌∷◌, ◌≤◌, ◌<◌, List, ℕ, length, take, false, Some, None, IfSome, IfNone, IfErr, IsNone, OnOk, OnErr, IsTrue, slice_get, not, ◌&&◌};
 ghost use Rattle.std.specs.Option.{option_copied};
-ghost use Rattle.turk_base.specs.Trace.{at, below};
+ghost use Rattle.turk_base.specs.Trace.{at, below, begins, same_list};
 ghost use Rattle.trace_tree.specs.Traces.{IsTrace, Begins, StandsNone};
 
 use crate::places::{child_of, front_of};
@@ -91,7 +90,7 @@ impl Trace {
     pub fn below(&self, path: &Path) -> bool
         ensures { result ≡ below self.now.entries path.now }
     {
-        is_below(&self.entries, path.as_slice())
+        is_below(&self.entries, path)
     }
 
     /// The Spot of the empty path.
@@ -184,22 +183,22 @@ fn record_at<'a>(entries: &'a [Entry], path: &[u32]) -> Option<&'a Record>
     None
 }
 
-fn is_below(entries: &[Entry], path: &[u32]) -> bool
+fn is_below(entries: &[Entry], path: &Path) -> bool
     ensures { result ≡ below entries.now path.now }
 {
     for entry in entries {
-        if is_longer(entry.path.as_slice(), path) {
+        if is_longer(&entry.path, path) {
             return true;
         }
     }
     false
 }
 
-// Whether a path begins with this front and is longer.
-fn is_longer(path: &[u32], front: &[u32]) -> bool
-    ensures { result ≡ (starts_with nat_eq path.now front.now && nat_lt (length front.now) (length path.now)) }
+// Whether a path begins with this front and is another.
+fn is_longer(path: &Path, front: &Path) -> bool
+    ensures { result ≡ (begins front.now path.now && not (same_list front.now path.now)) }
 {
-    path.starts_with(front) && front.len() < path.len()
+    front.begins(path) && front != path
 }
 
 // Whether a path begins with this front and then has the index.
