@@ -1,5 +1,7 @@
 -- Bytes spell one value at most, and no spelling of a record or a task begins another.
 use Rattle.std.proofs.Common.{◌≡◌, ℕ, ◌+◌, ◌^◌, ◌<◌, ◌≤◌, List, [], ◌∷◌, ◌++◌, length, Option, Some, None, refl, sym, ap, subst, ◌∙◌, append_assoc, arith}
+use Rattle.std.specs.Prelude.{is_some}
+use Rattle.std.proofs.lemmas.Bool.{false≢true}
 use Rattle.std.proofs.lemmas.List.{append-nil}
 use Rattle.turk_base.specs.declared.Entry.{Entry}
 use Rattle.record_bytes.specs.Spelling.{entry_bytes, task_bytes}
@@ -60,3 +62,6 @@ pair_is a c b d e = (ap first_in e, ap second_in e)
 
 pub one_task : (bytes a b c d : List ℕ) → SpellsTask bytes a b → SpellsTask bytes c d → (a ≡ c) × (b ≡ d)
 one_task bytes a b c d of_a of_c = pair_is a c b d (sym (task_whole bytes a b of_a) ∙ task_whole bytes c d of_c)
+
+pub none_apart : {A : Type 0} (o : Option A) (x : A) → o ≡ None → o ≡ Some x → ⊥
+none_apart o x none some = false≢true (sym (ap is_some none) ∙ ap is_some some)

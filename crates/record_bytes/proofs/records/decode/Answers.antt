@@ -1,5 +1,6 @@
 use Rattle.std.proofs.Common.{◌≡◌, arith}
-use Rattle.record_bytes.specs.Unique.{entry_whole}
+use Rattle.record_bytes.specs.Unique.{entry_whole, none_apart}
+use Rattle.record_bytes.specs.Reading.{entry_at, whole}
 use Rattle.record_bytes.proofs.Takes.{entry_spelled}
 use Rattle.record_bytes.proofs.records.decode.Goals as goal
 
@@ -8,6 +9,4 @@ returns-in-Ok-clause-some c = entry_spelled c.args.bytes.now c.in-Ok.entry (λ i
 
 pub returns-in-Err-Bad-clause-none : goal.returns-in-Err-Bad-clause-none
 returns-in-Err-Bad-clause-none c e spelled =
-    let is = entry_whole c.args.bytes.now e spelled in
-    let none = c.in-Err-Bad.ensures in
-    cc
+    none_apart (whole entry_at c.args.bytes.now) e (rw c.in-Err-Bad.field-0-is at c.in-Err-Bad.ensures) (entry_whole c.args.bytes.now e spelled)

@@ -1,5 +1,6 @@
 use Rattle.std.proofs.Common.{◌≡◌, arith}
-use Rattle.record_bytes.specs.Unique.{task_whole}
+use Rattle.record_bytes.specs.Unique.{task_whole, none_apart}
+use Rattle.record_bytes.specs.Reading.{task_at, whole}
 use Rattle.record_bytes.proofs.Takes.{task_spelled}
 use Rattle.record_bytes.proofs.tasks.decode_task.Goals as goal
 
@@ -8,6 +9,4 @@ returns-in-Ok-clause-some c = task_spelled c.args.bytes.now c.in-Ok.task.0 c.in-
 
 pub returns-in-Err-Bad-clause-none : goal.returns-in-Err-Bad-clause-none
 returns-in-Err-Bad-clause-none c token text spelled =
-    let is = task_whole c.args.bytes.now token text spelled in
-    let none = c.in-Err-Bad.ensures in
-    cc
+    none_apart (whole task_at c.args.bytes.now) (token, text) (rw c.in-Err-Bad.field-0-is at c.in-Err-Bad.ensures) (task_whole c.args.bytes.now token text spelled)
