@@ -70,17 +70,19 @@ fields_nesting_at (e ∷ fs) (suc i) f lt is = omega (arith, fields_nesting_at f
 -- one item more in a loop
 pub items_step : (ds : List Data) (i : ℕ) (d : Data) (old now new : List ℕ) → i < length ds → d ≡ get_or ds i d → (now ≡ old ++ items_bytes (items_of (take i ds))) × AreItems (items_of (take i ds)) → (new ≡ now ++ data_bytes d) × IsData d → (new ≡ old ++ items_bytes (items_of (take (i + 1) ds))) × AreItems (items_of (take (i + 1) ds))
 items_step ds i d old now new lt is so_far more =
-    let front : take (i + 1) ds ≡ take i ds ++ d ∷ [] = take_more ds i d lt ∙ ap (λ (x : Data). take i ds ++ x ∷ []) (sym is) in
-    (more.0 ∙ ap (λ (l : List ℕ). l ++ data_bytes d) so_far.0 ∙ append_assoc old (items_bytes (items_of (take i ds))) (data_bytes d) ∙ ap (λ (l : List ℕ). old ++ l) (sym (items_push (take i ds) d)) ∙ ap (λ (l : List Data). old ++ items_bytes (items_of l)) (sym front),
-     subst (λ (l : List Data). AreItems (items_of l)) (sym front) (are_items_push (take i ds) d so_far.1 more.1))
+    let front : take (i + 1) ds ≡ take i ds ++ d ∷ [] = take_more ds i d lt ∙ ap (λ (x : Data). take i ds ++ x ∷ []) (sym is) in (
+      more.0 ∙ ap (λ (l : List ℕ). l ++ data_bytes d) so_far.0 ∙ append_assoc old (items_bytes (items_of (take i ds))) (data_bytes d) ∙ ap (λ (l : List ℕ). old ++ l) (sym (items_push (take i ds) d)) ∙ ap (λ (l : List Data). old ++ items_bytes (items_of l)) (sym front),
+      subst (λ (l : List Data). AreItems (items_of l)) (sym front) (are_items_push (take i ds) d so_far.1 more.1),
+    )
 
 -- one field more in a loop
 pub fields_step : (fs : List (List ℕ × Data)) (i : ℕ) (f : List ℕ × Data) (old now mid new : List ℕ) → i < length fs → f ≡ get_or fs i f → (now ≡ old ++ fields_bytes (fields_of (take i fs))) × AreFields (fields_of (take i fs)) → mid ≡ now ++ text_bytes f.0 → AreUnits f.0 → (new ≡ mid ++ data_bytes f.1) × IsData f.1 → (new ≡ old ++ fields_bytes (fields_of (take (i + 1) fs))) × AreFields (fields_of (take (i + 1) fs))
 fields_step fs i f old now mid new lt is so_far key units more =
     let front : take (i + 1) fs ≡ take i fs ++ f ∷ [] = take_more fs i f lt ∙ ap (λ (x : List ℕ × Data). take i fs ++ x ∷ []) (sym is) in
-    let one : List ℕ = text_bytes f.0 ++ data_bytes f.1 in
-    (more.0 ∙ ap (λ (l : List ℕ). l ++ data_bytes f.1) (key ∙ ap (λ (l : List ℕ). l ++ text_bytes f.0) so_far.0) ∙ append_assoc (old ++ fields_bytes (fields_of (take i fs))) (text_bytes f.0) (data_bytes f.1) ∙ append_assoc old (fields_bytes (fields_of (take i fs))) one ∙ ap (λ (l : List ℕ). old ++ l) (sym (fields_push (take i fs) f)) ∙ ap (λ (l : List (List ℕ × Data)). old ++ fields_bytes (fields_of l)) (sym front),
-     subst (λ (l : List (List ℕ × Data)). AreFields (fields_of l)) (sym front) (are_fields_push (take i fs) f so_far.1 units more.1))
+    let one : List ℕ = text_bytes f.0 ++ data_bytes f.1 in (
+      more.0 ∙ ap (λ (l : List ℕ). l ++ data_bytes f.1) (key ∙ ap (λ (l : List ℕ). l ++ text_bytes f.0) so_far.0) ∙ append_assoc (old ++ fields_bytes (fields_of (take i fs))) (text_bytes f.0) (data_bytes f.1) ∙ append_assoc old (fields_bytes (fields_of (take i fs))) one ∙ ap (λ (l : List ℕ). old ++ l) (sym (fields_push (take i fs) f)) ∙ ap (λ (l : List (List ℕ × Data)). old ++ fields_bytes (fields_of l)) (sym front),
+      subst (λ (l : List (List ℕ × Data)). AreFields (fields_of l)) (sym front) (are_fields_push (take i fs) f so_far.1 units more.1),
+    )
 
 pub no_items : (old : List ℕ) → (old ≡ old ++ items_bytes NoItems) × AreItems NoItems
 unfolding items_bytes AreItems

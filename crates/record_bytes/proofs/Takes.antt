@@ -200,7 +200,7 @@ items_takes n read reads (suc count) bytes ds rest fits e =
     let second = items_takes n read reads count a.0.1 b.0.0 b.0.1 first.takes.rest_fits b.1 in
     let both = Takes-then bytes (data_bytes a.0.0) a.0.1 (items_bytes (items_of b.0.0)) b.0.1 first.takes second.takes in
     subst (λ (y : List Data × List ℕ). TakesItems n (suc count) bytes y.0 y.1) (some_is (a.0.0 ∷ b.0.0, b.0.1) (ds, rest) b.2)
-      (record { takes = both; count_is = ap suc second.count_is; deep = omega (arith, first.deep, second.deep); within = (first.within, second.within); typed = (first.typed, second.typed) })
+    (record { takes = both; count_is = ap suc second.count_is; deep = omega (arith, first.deep, second.deep); within = (first.within, second.within); typed = (first.typed, second.typed) })
 
 record TakesFields (n count : ℕ) (bytes : List ℕ) (fs : List (List ℕ × Data)) (rest : List ℕ) : Type 0 where
   pub takes : Takes bytes (fields_bytes (fields_of fs)) rest
@@ -226,7 +226,7 @@ fields_takes n read reads (suc count) bytes fs rest fits e =
     let one = Takes-then bytes (text_bytes t.0.0) t.0.1 (data_bytes a.0.0) a.0.1 key.takes first.takes in
     let both = Takes-then bytes (text_bytes t.0.0 ++ data_bytes a.0.0) a.0.1 (fields_bytes (fields_of b.0.0)) b.0.1 one second.takes in
     subst (λ (y : List (List ℕ × Data) × List ℕ). TakesFields n (suc count) bytes y.0 y.1) (some_is (pair t.0.0 a.0.0 ∷ b.0.0, b.0.1) (fs, rest) b.2)
-      (record { takes = both; count_is = ap suc second.count_is; deep = omega (arith, first.deep, second.deep); within = (key.within, (first.within, second.within)); typed = (key.units, (first.typed, second.typed)) })
+    (record { takes = both; count_is = ap suc second.count_is; deep = omega (arith, first.deep, second.deep); within = (key.within, (first.within, second.within)); typed = (key.units, (first.typed, second.typed)) })
 
 record TakesTagged (n tag : ℕ) (bytes : List ℕ) (d : Data) (rest : List ℕ) : Type 0 where
   pub takes : Takes (tag ∷ bytes) (data_bytes d) rest
@@ -246,7 +246,7 @@ list_takes n read reads bytes d rest fits e =
     let count : count_items items ≡ a.0.0 = count_items_of b.0.0 ∙ second.count_is in
     let both = Takes-behind 6 bytes (to_be_bytes w32 a.0.0 ++ items_bytes items) b.0.1 (Takes-then bytes (to_be_bytes w32 a.0.0) a.0.1 (items_bytes items) b.0.1 first.0 second.takes) in
     subst (λ (y : Data × List ℕ). TakesTagged (suc n) 6 bytes y.0 y.1) (some_is (DList items, b.0.1) (d, rest) b.2)
-      (record { takes = subst (λ (k : ℕ). Takes (6 ∷ bytes) (6 ∷ (to_be_bytes w32 k ++ items_bytes items)) b.0.1) (sym count) both; deep = omega (arith, second.deep); within = (omega (arith, count, leb-true _ _ g.0), second.within); typed = second.typed })
+    (record { takes = subst (λ (k : ℕ). Takes (6 ∷ bytes) (6 ∷ (to_be_bytes w32 k ++ items_bytes items)) b.0.1) (sym count) both; deep = omega (arith, second.deep); within = (omega (arith, count, leb-true _ _ g.0), second.within); typed = second.typed })
 
 all_fields_take : (n : ℕ) (read : Reader Data) → ReadsData n read → (bytes : List ℕ) (d : Data) (rest : List ℕ) → IsBytes bytes → fields_with read bytes ≡ Some (d, rest) → TakesTagged (suc n) 7 bytes d rest
 unfolding fields_with data_bytes fields_bytes nesting nesting_fields IsDataWithin IsData AreFields AreFieldsWithin
@@ -260,7 +260,7 @@ all_fields_take n read reads bytes d rest fits e =
     let count : count_fields fields ≡ a.0.0 = count_fields_of b.0.0 ∙ second.count_is in
     let both = Takes-behind 7 bytes (to_be_bytes w32 a.0.0 ++ fields_bytes fields) b.0.1 (Takes-then bytes (to_be_bytes w32 a.0.0) a.0.1 (fields_bytes fields) b.0.1 first.0 second.takes) in
     subst (λ (y : Data × List ℕ). TakesTagged (suc n) 7 bytes y.0 y.1) (some_is (DFields fields, b.0.1) (d, rest) g.1)
-      (record { takes = subst (λ (k : ℕ). Takes (7 ∷ bytes) (7 ∷ (to_be_bytes w32 k ++ fields_bytes fields)) b.0.1) (sym count) both; deep = omega (arith, second.deep); within = (omega (arith, count, first.1), second.within); typed = (subst IsDistinctKeys (sym (keys_fields_of b.0.0)) (distinct_by_test (map (λ f. f.0) b.0.0) g.0), second.typed) })
+    (record { takes = subst (λ (k : ℕ). Takes (7 ∷ bytes) (7 ∷ (to_be_bytes w32 k ++ fields_bytes fields)) b.0.1) (sym count) both; deep = omega (arith, second.deep); within = (omega (arith, count, first.1), second.within); typed = (subst IsDistinctKeys (sym (keys_fields_of b.0.0)) (distinct_by_test (map (λ f. f.0) b.0.0) g.0), second.typed) })
 
 abbrev gave : Data → List ℕ → Option (Data × List ℕ)
 gave d rest = Some (d, rest)
@@ -322,7 +322,7 @@ draw_takes bytes r rest fits e =
     let first = number_takes w64 (2 ^ 64) wide64 bytes a.0.0 a.0.1 fits a.1 in
     let second = number_takes w64 (2 ^ 64) wide64 a.0.1 b.0.0 b.0.1 first.0.rest_fits b.1 in
     subst (λ (y : Record × List ℕ). Takes bytes (body_bytes y.0) y.1 × IsRecordWithin y.0 × IsRecord y.0 × (kind_of y.0 ≡ 3)) (some_is (Draw (pos a.0.0) (pos b.0.0), b.0.1) (r, rest) g.1)
-      (Takes-then bytes (to_be_bytes w64 a.0.0) a.0.1 (to_be_bytes w64 b.0.0) b.0.1 first.0 second.0, (ltb-true _ _ tests.0, leb-true _ _ tests.1), tt, refl)
+    (Takes-then bytes (to_be_bytes w64 a.0.0) a.0.1 (to_be_bytes w64 b.0.0) b.0.1 first.0 second.0, (ltb-true _ _ tests.0, leb-true _ _ tests.1), tt, refl)
 
 reply_takes : (bytes : List ℕ) (r : Record) (rest : List ℕ) → IsBytes bytes → reply_at bytes ≡ Some (r, rest) → Takes bytes (body_bytes r) rest × IsRecordWithin r × IsRecord r × (kind_of r ≡ 2)
 unfolding reply_at body_bytes
@@ -332,7 +332,7 @@ reply_takes bytes r rest fits e =
     let first = text_takes bytes a.0.0 a.0.1 fits a.1 in
     let second = text_takes a.0.1 b.0.0 b.0.1 first.takes.rest_fits b.1 in
     subst (λ (y : Record × List ℕ). Takes bytes (body_bytes y.0) y.1 × IsRecordWithin y.0 × IsRecord y.0 × (kind_of y.0 ≡ 2)) (some_is (Reply a.0.0 b.0.0, b.0.1) (r, rest) b.2)
-      (Takes-then bytes (text_bytes a.0.0) a.0.1 (text_bytes b.0.0) b.0.1 first.takes second.takes, (first.within, second.within), (first.units, second.units), refl)
+    (Takes-then bytes (text_bytes a.0.0) a.0.1 (text_bytes b.0.0) b.0.1 first.takes second.takes, (first.within, second.within), (first.units, second.units), refl)
 
 body_takes : (kind : ℕ) (bytes : List ℕ) (r : Record) (rest : List ℕ) → IsBytes bytes → body_at kind bytes ≡ Some (r, rest) → Takes bytes (body_bytes r) rest × IsRecordWithin r × IsRecord r × (kind_of r ≡ kind)
 unfolding body_bytes
@@ -367,7 +367,7 @@ entry_takes (kind ∷ bytes) e rest fits is =
     let second = body_takes kind a.0.1 b.0.0 b.0.1 first.takes.rest_fits b.1 in
     let both = Takes-behind kind bytes (path_bytes a.0.0 ++ body_bytes b.0.0) b.0.1 (Takes-then bytes (path_bytes a.0.0) a.0.1 (body_bytes b.0.0) b.0.1 first.takes second.0) in
     subst (λ (y : Entry × List ℕ). TakesEntry (kind ∷ bytes) y.0 y.1) (some_is (entry_of a.0.0 b.0.0, b.0.1) (e, rest) b.2)
-      (record { takes = subst (λ (k : ℕ). Takes (kind ∷ bytes) (k ∷ (path_bytes a.0.0 ++ body_bytes b.0.0)) b.0.1) (sym second.3) both; within = record { some = first.some; short = first.short; what = second.1 }; typed = record { path = first.indexes; what = second.2 } })
+    (record { takes = subst (λ (k : ℕ). Takes (kind ∷ bytes) (k ∷ (path_bytes a.0.0 ++ body_bytes b.0.0)) b.0.1) (sym second.3) both; within = record { some = first.some; short = first.short; what = second.1 }; typed = record { path = first.indexes; what = second.2 } })
 
 -- where nothing follows
 only_is : {A : Type 0} (x : A × List ℕ) (y : A) → only x ≡ Some y → (x.0 ≡ y) × (x.1 ≡ [])

@@ -160,6 +160,7 @@ field_then read n key d fs key_front front after rest text one others =
 
 mutual
   unfolding data_bytes items_bytes fields_bytes IsDataWithin AreItemsWithin AreFieldsWithin IsData AreItems AreFields nesting nesting_items nesting_fields items_at fields_at
+
   pub data_again : (d : Data) (n : ℕ) (rest : List ℕ) → nesting d ≤ n → IsDataWithin d → IsData d → data_at n (data_bytes d ++ rest) ≡ Some (d, rest)
   data_again DUndefined n rest deep within is = data_is n (0 ∷ rest) 0 rest refl
   data_again DNull n rest deep within is = data_is n (1 ∷ rest) 1 rest refl

@@ -10,7 +10,6 @@ mod trees;
 
 pub use records::{decode, encode};
 pub use tasks::{decode_task, encode_task};
-
 use turk_base::{Bytes, Name};
 
 /// What a journal begins with.

@@ -12,6 +12,7 @@ use std::alloc::Global;
 use turk_base::{Entry, NoMemory, Record, Whole};
 
 const DEEPEST: u32 = 64;
+
 const GREATEST: u64 = 9_007_199_254_740_992;
 
 #[tactic(auto, unfolding(crate::specs::Spelling::body_bytes))]

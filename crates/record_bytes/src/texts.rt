@@ -13,7 +13,9 @@ use std::alloc::Global;
 use turk_base::{NoMemory, Path, Units, Whole};
 
 const MOST_UNITS: u32 = 1_048_576;
+
 const LONGEST_PATH: u16 = 800;
+
 const GREATEST: u64 = 9_007_199_254_740_992;
 
 // Adds bytes at the end.

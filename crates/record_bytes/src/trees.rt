@@ -153,7 +153,12 @@ fn list_of(alloc: Global, bytes: &[u8], left: u32) -> Result<(Data, &[u8]), Read
 }
 
 #[cycle(reading)]
-fn items_of(alloc: Global, bytes: &[u8], count: u32, left: u32) -> Result<(Vec<Data>, &[u8]), ReadStop>
+fn items_of(
+    alloc: Global,
+    bytes: &[u8],
+    count: u32,
+    left: u32,
+) -> Result<(Vec<Data>, &[u8]), ReadStop>
     ensures { Gives (λ x. (x.0.items, x.1.now)) result (items_at (data_at left) count bytes.now) }
 {
     let mut items = Vec::new(alloc);
@@ -188,7 +193,12 @@ fn fields_of(alloc: Global, bytes: &[u8], left: u32) -> Result<(Data, &[u8]), Re
 }
 
 #[cycle(reading)]
-fn pairs_of(alloc: Global, bytes: &[u8], count: u32, left: u32) -> Result<(Vec<(Units, Data)>, &[u8]), ReadStop>
+fn pairs_of(
+    alloc: Global,
+    bytes: &[u8],
+    count: u32,
+    left: u32,
+) -> Result<(Vec<(Units, Data)>, &[u8]), ReadStop>
     ensures { Gives (λ x. (x.0.items, x.1.now)) result (fields_at (data_at left) count bytes.now) }
 {
     let mut fields = Vec::new(alloc);

@@ -38,7 +38,6 @@ below_skip e es p not = ap (λ b. b || below es p) not
 pub below_hit : (e : Entry) (es : List Entry) (p : List ℕ) → (begins p e.path && flip (same_list p e.path)) ≡ true → below (e ∷ es) p ≡ true
 below_hit e es p longer = ap (λ b. b || below es p) longer
 
-
 -- ---- a loop over the entries from the first on
 
 pub found_at : (es : List Entry) (i : ℕ) (e : Entry) (p : List ℕ) → i < length es → e ≡ get_or es i e → e.path ≡ p → at (drop i es) p ≡ at es p → Some e.what ≡ at es p

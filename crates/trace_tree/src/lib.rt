@@ -4,14 +4,13 @@
 mod places;
 mod spot;
 
-pub use spot::Spot;
-
 ghost use Rattle.std.specs.Prelude.{◌≡◌, ◌≢◌, ◌↔◌, ◌++◌, [], ◌∷◌, ◌≤◌, ◌<◌, List, ℕ, length, take, false, Some, None, IfSome, IfNone, IfErr, IsNone, OnOk, OnErr, IsTrue, slice_get, not, ◌&&◌};
 ghost use Rattle.std.specs.Option.{option_copied};
 ghost use Rattle.turk_base.specs.Trace.{at, below, begins, same_list};
 ghost use Rattle.trace_tree.specs.Traces.{IsTrace, Begins, StandsNone};
 
 use crate::places::{child_of, front_of};
+pub use spot::Spot;
 use std::alloc::Global;
 use std::marker::Model;
 use turk_base::{Entry, NoMemory, Path, Record};
@@ -38,7 +37,6 @@ pub struct Trace {
 
 impl Model for Trace {
     ghost use Rattle.trace_tree.specs.Traces.{Kept, IsTrace, room_in};
-
     ghost use Rattle.std.specs.Coded.{code_by, coded×, coded_list, coded_ℕ};
     ghost use Rattle.std.specs.Prelude.{refl};
     ghost use Rattle.turk_base.specs.contracts.Entry as entry;
@@ -213,4 +211,3 @@ fn goes_on(path: &[u32], front: &[u32], index: u32) -> bool
     }
     path[front.len()] == index
 }
-
