@@ -1,0 +1,5 @@
+pub mod Again
+pub mod Limits
+pub mod Reading
+pub mod Spelling
+pub mod Unique
