@@ -2,7 +2,8 @@
 ghost use Rattle.std.specs.Prelude.{◌<◌, ◌^◌, length};
 
 use crate::{
-    Bytes, Data, Entry, Name, NameStop, Node, Path, Record, Replies, TextStop, Units, Whole, token,
+    Bytes, Data, Entry, Name, NameStop, NoMemory, Node, Path, Record, Replies, SlotKey, SlotName,
+    TextStop, Units, Verdict, Whole, token,
 };
 use std::alloc::Global;
 
@@ -68,6 +69,59 @@ fn is_name(alloc: Global, text: &str) -> bool {
     }
 }
 
+fn is_units(answer: Result<Units, NoMemory>, wanted: &[u16]) -> bool {
+    match answer {
+        Ok(found) => found.as_slice() == wanted,
+        Err(_) => false,
+    }
+}
+
+fn is_bytes(answer: Result<Bytes, NoMemory>, wanted: &[u8]) -> bool {
+    match answer {
+        Ok(found) => found.as_slice() == wanted,
+        Err(_) => false,
+    }
+}
+
+fn is_path(answer: Result<Path, NoMemory>, wanted: &[u32]) -> bool {
+    match answer {
+        Ok(found) => found.as_slice() == wanted,
+        Err(_) => false,
+    }
+}
+
+fn is_number(data: &Data, wanted: i64) -> bool {
+    match data.node() {
+        Node::Number(number) => number.get() == wanted,
+        _ => false,
+    }
+}
+
+fn is_once(what: &Record, wanted: i64) -> bool {
+    match what {
+        Record::Once(data) => is_number(data, wanted),
+        _ => false,
+    }
+}
+
+fn is_slot(slot: &SlotName, number: u32) -> bool {
+    slot.number == number && slot.scope.as_slice() == [3].as_slice() && is_key(&slot.key)
+}
+
+fn is_key(key: &SlotKey) -> bool {
+    match key {
+        SlotKey::Shape => false,
+        SlotKey::Key(units) => units.as_slice() == [107].as_slice(),
+    }
+}
+
+fn is_open(verdict: &Verdict, number: u32) -> bool {
+    match verdict {
+        Verdict::TouchedOpen(slot) => is_slot(slot, number),
+        _ => false,
+    }
+}
+
 #[test]
 fn bytes_and_units(rt: HostRuntime) {
     let alloc = rt.alloc();
@@ -100,14 +154,52 @@ fn tokens_and_names(rt: HostRuntime) {
 }
 
 #[test]
-fn lists_grow(rt: HostRuntime) {
+fn lists_are_made(rt: HostRuntime) {
+    let alloc = rt.alloc();
+    assert!(rt; is_units(Units::from_slice(alloc, &[1, 700]), &[1, 700]));
+    assert!(rt; is_units(Units::from_bytes(alloc, b"ab"), &[97, 98]));
+    assert!(rt; is_bytes(Bytes::from_slice(alloc, &[7, 8]), &[7, 8]));
+    assert!(rt; is_path(Path::from_slice(alloc, &[4, 0]), &[4, 0]));
+    assert!(rt; is_units(units(alloc, b"ab").copy(alloc), &[97, 98]));
+    assert!(rt; is_path(path(alloc, &[4, 0]).copy(alloc), &[4, 0]));
+    assert!(rt; is_path(path(alloc, &[4]).child(alloc, 2), &[4, 2]));
+}
+
+#[test]
+fn bytes_grow(rt: HostRuntime) {
     let alloc = rt.alloc();
     let mut bytes = Bytes::new(alloc);
-    assert!(rt; bytes.push(7).is_ok() && bytes.push_slice(&[8, 9]).is_ok());
-    assert!(rt; bytes.as_slice() == [7, 8, 9].as_slice());
-    let mut text = units(alloc, b"ab");
-    assert!(rt; text.push(99).is_ok() && text.append(&units(alloc, b"d")).is_ok());
-    assert!(rt; text == units(alloc, b"abcd"));
+    assert!(rt; bytes.push(7).is_ok());
+    assert!(rt; bytes.push_slice(&[8, 9]).is_ok());
+    let more = Bytes::from_vec(Vec::new(alloc));
+    assert!(rt; bytes.append(&more).is_ok());
+    assert!(rt; is_bytes(bytes.copy(alloc), &[7, 8, 9]));
+}
+
+#[test]
+fn texts_grow(rt: HostRuntime) {
+    let alloc = rt.alloc();
+    let mut text = units(alloc, b"a");
+    assert!(rt; text.push(98).is_ok());
+    assert!(rt; text.push_slice(&[99]).is_ok());
+    assert!(rt; text.push_bytes(b"d").is_ok());
+    assert!(rt; text.append(&units(alloc, b"e")).is_ok());
+    assert!(rt; text == units(alloc, b"abcde"));
+}
+
+#[test]
+fn paths_grow(rt: HostRuntime) {
+    let alloc = rt.alloc();
+    let mut place = path(alloc, &[1]);
+    assert!(rt; place.push(2).is_ok());
+    assert!(rt; place.push_slice(&[3]).is_ok());
+    assert!(rt; place.append(&path(alloc, &[4])).is_ok());
+    assert!(rt; place.as_slice() == [1, 2, 3, 4].as_slice());
+}
+
+#[test]
+fn the_first_reply_counts(rt: HostRuntime) {
+    let alloc = rt.alloc();
     let mut replies = Replies::new(alloc);
     assert!(rt; replies.add(units(alloc, b"t"), units(alloc, b"x")).is_ok());
     assert!(rt; replies.add(units(alloc, b"t"), units(alloc, b"y")).is_ok());
@@ -119,16 +211,67 @@ fn lists_grow(rt: HostRuntime) {
     assert!(rt; replies.find(&units(alloc, b"u")).is_none());
 }
 
-#[test]
-fn entries_are_copied(rt: HostRuntime) {
-    let alloc = rt.alloc();
+fn number_copies(alloc: Global, number: u32) -> bool {
+    match Data::make(Node::Number(Whole::from_u32(number))).copy(alloc) {
+        Ok(copy) => is_number(&copy, number as i64),
+        Err(_) => false,
+    }
+}
+
+fn entry_copies(alloc: Global) -> bool {
     let entry = Entry {
         path: path(alloc, &[3]),
         what: Record::Once(Data::make(Node::Number(Whole::from_u32(7)))),
     };
-    let same = match entry.copy(alloc) {
-        Ok(copy) => copy.path == entry.path,
+    match entry.copy(alloc) {
+        Ok(copy) => copy.path == entry.path && is_once(&copy.what, 7),
         Err(_) => false,
-    };
-    assert!(rt; same);
+    }
+}
+
+fn record_copies(alloc: Global) -> bool {
+    match Record::Once(Data::make(Node::Number(Whole::from_u32(9)))).copy(alloc) {
+        Ok(copy) => is_once(&copy, 9),
+        Err(_) => false,
+    }
+}
+
+fn slot(alloc: Global) -> SlotName {
+    SlotName {
+        scope: path(alloc, &[3]),
+        number: 8,
+        key: SlotKey::Key(units(alloc, b"k")),
+    }
+}
+
+fn key_copies(alloc: Global) -> bool {
+    match SlotKey::Key(units(alloc, b"k")).copy(alloc) {
+        Ok(copy) => is_key(&copy),
+        Err(_) => false,
+    }
+}
+
+fn slot_copies(alloc: Global) -> bool {
+    match slot(alloc).copy(alloc) {
+        Ok(copy) => is_slot(&copy, 8),
+        Err(_) => false,
+    }
+}
+
+fn verdict_copies(alloc: Global) -> bool {
+    match Verdict::TouchedOpen(slot(alloc)).copy(alloc) {
+        Ok(copy) => is_open(&copy, 8),
+        Err(_) => false,
+    }
+}
+
+#[test]
+fn trees_are_copied(rt: HostRuntime) {
+    let alloc = rt.alloc();
+    assert!(rt; number_copies(alloc, 7));
+    assert!(rt; record_copies(alloc));
+    assert!(rt; entry_copies(alloc));
+    assert!(rt; key_copies(alloc));
+    assert!(rt; slot_copies(alloc));
+    assert!(rt; verdict_copies(alloc));
 }
