@@ -98,12 +98,17 @@ impl Units {
         Ok(units)
     }
 
-    /// Adds as many units as there are bytes, each with the byte's number. After a refusal some of them are added.
+    /// Adds as many units as there are bytes, each with the byte's number. After a refusal the text is as before.
     pub fn push_bytes(&mut self, bytes: &[u8]) -> Result<(), NoMemory>
         ensures ok { IfOk result (λ _. self.new ≡ self.old ++ bytes.now) }
+        ensures err { OnErr result (self.new ≡ self.old) }
     {
+        let before = self.items.len();
         for byte in bytes {
-            self.push(*byte as u16)?;
+            if self.push(*byte as u16).is_err() {
+                self.items.truncate(before);
+                return Err(NoMemory);
+            }
         }
         Ok(())
     }
