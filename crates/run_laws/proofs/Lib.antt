@@ -18,3 +18,5 @@ pub mod Twice
 pub mod There
 pub mod Pays
 pub mod Budget
+pub mod Fronts
+pub mod Parting
