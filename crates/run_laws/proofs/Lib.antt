@@ -20,3 +20,4 @@ pub mod Pays
 pub mod Budget
 pub mod Fronts
 pub mod Parting
+pub mod Mirror

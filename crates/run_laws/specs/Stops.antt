@@ -7,6 +7,7 @@ use Rattle.turk_base.specs.Asks.{Rec, rec}
 use Rattle.turk_base.specs.Names.{Path, Units}
 use Rattle.turk_base.specs.Prog.{Prog}
 use Rattle.js_tree.specs.Eval.{eval, world}
+use Rattle.js_tree.specs.Run.{waits}
 use Rattle.js_tree.specs.World.{World}
 
 -- the list begins with this one
@@ -43,3 +44,10 @@ abbrev pub PostRests : Type 0
 PostRests = (S : Prog) (E : World) (T : List Rec) (n : ℕ) (P1 : List Rec) (p : Path) (t : Units) →
     Front (P1 ++ (rec p (kept.Post t) ∷ [])) (eval S E T n).made →
     Front (rec p (kept.Post t) ∷ []) (eval S (world E.session [] []) (T ++ P1) n).made
+
+-- A run that waits: over the trace with what it made, with no replies and no draws, it waits again, with the same state, and makes nothing.
+abbrev pub WaitsAgain : Type 0
+WaitsAgain = (S : Prog) (E : World) (T : List Rec) (n : ℕ) → (eval S E T n).out ≡ waits →
+    ((eval S (world E.session [] []) (T ++ (eval S E T n).made) n).out ≡ waits) ×
+    ((eval S (world E.session [] []) (T ++ (eval S E T n).made) n).st ≡ (eval S E T n).st) ×
+    ((eval S (world E.session [] []) (T ++ (eval S E T n).made) n).made ≡ [])

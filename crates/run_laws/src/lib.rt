@@ -2,7 +2,7 @@
 #![tactic(auto)]
 
 ghost use Rattle.run_laws.specs.Claim.{InBudget, OrderVanishes, RecordsThere, ReplayLaw, TwoHistories};
-ghost use Rattle.run_laws.specs.Stops.{RecordedDraws, StopsBegin, StopsNext};
+ghost use Rattle.run_laws.specs.Stops.{PostRests, RecordedDraws, StopsBegin, StopsNext, WaitsAgain};
 
 /// From a grown trace, a run that ends without a reason has the end and the state of the plain run, unless that is spent.
 pub fn order_vanishes()
@@ -42,4 +42,14 @@ pub fn stops_begin()
 /// There the next record, where it is no draw, comes next as well.
 pub fn stops_next()
     ensures { StopsNext }
+{}
+
+/// There a post that came next comes first with no replies and no draws: what its text rests on is in the trace that is left.
+pub fn post_rests()
+    ensures { PostRests }
+{}
+
+/// Over the trace with what a run made that waits, and no replies and no draws, the run waits again and makes nothing.
+pub fn waits_again()
+    ensures { WaitsAgain }
 {}
