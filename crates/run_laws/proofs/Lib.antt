@@ -18,3 +18,6 @@ pub mod Twice
 pub mod There
 pub mod Pays
 pub mod Budget
+pub mod Fronts
+pub mod Parting
+pub mod Mirror

@@ -195,10 +195,10 @@ r_skip k = record { holds = λ h2 h3 x z g. k.holds h2 (λ p r w n e. h3 p r (w.
 spent_less : {f' : ℕ} → suc f' ≤ zero → ⊥
 spent_less h = omega arith
 
-too_little : (c m n : ℕ) → m ≤ n → nat_lt m c ≡ false → nat_lt n c ≡ true → ⊥
+pub too_little : (c m n : ℕ) → m ≤ n → nat_lt m c ≡ false → nat_lt n c ≡ true → ⊥
 too_little c m n l e e' = true≢false (sym e' ∙ le-ltb n c (le_trans (ltb-false m c e) l))
 
-minus_both : (m n c : ℕ) → m ≤ n → m - c ≤ n - c
+pub minus_both : (m n c : ℕ) → m ≤ n → m - c ≤ n - c
 minus_both m n c l = omega (arith, l)
 
 -- ---- what was made is answered in the same way
@@ -206,7 +206,7 @@ minus_both m n c l = omega (arith, l)
 units_pick : {B : Type 0} (t : Units) (x y : B) → pick (units_eq t t) x y ≡ x
 units_pick t x y = pick_yes y (units_eq t t) refl
 
-fresh_kept : (q : Question) (E : World) (k : ℕ) (p : Path) (f : Fresh q) → fresh q E k p ≡ Some f → kept_answer q E.session p f.what ≡ Some f.answer
+pub fresh_kept : (q : Question) (E : World) (k : ℕ) (p : Path) (f : Fresh q) → fresh q E k p ≡ Some f → kept_answer q E.session p f.what ≡ Some f.answer
 unfolding fresh
 fresh_kept (posts t) E k p f e = subst (λ f. kept_answer (posts t) E.session p f.what ≡ Some f.answer) (some_is e) (pick_yes None (units_eq t t) refl)
 fresh_kept (replies t) E k p f e = inner (answer E.pairs t) f e
@@ -220,7 +220,7 @@ fresh_kept (draws m) E k p f e = inner (draw_of E.dice k p m) f e
     inner (Some x) f e = subst (λ f. kept_answer (draws m) E.session p f.what ≡ Some f.answer) (some_is e) (pick_yes None (integer_eq m m) refl)
     inner None f e = absurd (none_some e)
 
-drew_same : (q : Question) (w w' : Rest) → w.left ≤ w'.left → (drew q w).left ≤ w'.left
+pub drew_same : (q : Question) (w w' : Rest) → w.left ≤ w'.left → (drew q w).left ≤ w'.left
 drew_same (posts t) w w' l = l
 drew_same (replies t) w w' l = l
 drew_same (draws m) w w' l = l
@@ -395,7 +395,7 @@ module _ (T T' : List Rec) (E E' : World) (one : E'.session ≡ E.session) (hold
   again N (Loop g) s b body kE kE' c σ w w' l = a_turns s body (λ k τ w. run g E T N s b body k τ w) (λ k τ w. run g E' T' N s b body k τ w)
       (λ k wk τ w. run_within g E T N s b body k wk τ w) (λ k fk τ w. run_left g E T N s b body k fk τ w) (λ kE kE' c τ w w' l. again N g s b body kE kE' c τ w w' l) N kE kE' c σ w w' l
 
-find_left : (p : Path) (l m : List Rec) (r : Rec) → find p l ≡ Some r → find p (l ++ m) ≡ Some r
+pub find_left : (p : Path) (l m : List Rec) (r : Rec) → find p l ≡ Some r → find p (l ++ m) ≡ Some r
 find_left p [] m r e = absurd (none_some e)
 find_left p (q ∷ l) m r e = inner (path_eq (path_of q) p) e (λ z. find_left p l m r z)
   where
@@ -411,7 +411,7 @@ find_right p (q ∷ l) m r n e = inner (path_eq (path_of q) p) n e (λ y z. find
     inner (yes d) y z h = absurd (none_some (sym y))
     inner (no d) y z h = h y z
 
-find_in : (l : List Rec) (q : Rec) → In Rec q l → find (path_of q) l ≡ None → ⊥
+pub find_in : (l : List Rec) (q : Rec) → In Rec q l → find (path_of q) l ≡ None → ⊥
 find_in [] q m e = elim m [ ]
 find_in (c ∷ l) q m e = inner (path_eq (path_of c) (path_of q)) m e (λ y z. find_in l q y z)
   where

@@ -2,6 +2,7 @@
 #![tactic(auto)]
 
 ghost use Rattle.run_laws.specs.Claim.{InBudget, OrderVanishes, RecordsThere, ReplayLaw, TwoHistories};
+ghost use Rattle.run_laws.specs.Stops.{PostRests, RecordedDraws, StopsBegin, StopsNext, WaitsAgain};
 
 /// From a grown trace, a run that ends without a reason has the end and the state of the plain run, unless that is spent.
 pub fn order_vanishes()
@@ -26,4 +27,29 @@ pub fn records_there()
 /// Fuel of at least the fuel of a run times one more than the once records of the trace that it leaves is enough for the plain run.
 pub fn in_budget()
     ensures { InBudget }
+{}
+
+/// Whatever draws a run had, with the draws of its trace and of what it made the run is the same.
+pub fn recorded_draws()
+    ensures { RecordedDraws }
+{}
+
+/// The records up to a stop are made first, too, with the draws of the trace that the stop leaves.
+pub fn stops_begin()
+    ensures { StopsBegin }
+{}
+
+/// There the next record, where it is no draw, comes next as well.
+pub fn stops_next()
+    ensures { StopsNext }
+{}
+
+/// There a post that came next comes first with no replies and no draws: what its text rests on is in the trace that is left.
+pub fn post_rests()
+    ensures { PostRests }
+{}
+
+/// Over the trace with what a run made that waits, and no replies and no draws, the run waits again and makes nothing.
+pub fn waits_again()
+    ensures { WaitsAgain }
 {}
