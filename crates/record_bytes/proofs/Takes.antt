@@ -31,7 +31,7 @@ IsBytes-take n bytes h i =
       | inr le ↦ rw (get_or_past (take n bytes) i 0 (omega (arith, length-take n bytes))) (omega arith)
     ]
 
-IsBytes-rest : (b : ℕ) (bytes : List ℕ) → IsBytes (b ∷ bytes) → IsBytes bytes
+pub IsBytes-rest : (b : ℕ) (bytes : List ℕ) → IsBytes (b ∷ bytes) → IsBytes bytes
 IsBytes-rest b bytes h i = h (suc i)
 
 -- the value of a step that gave one
@@ -64,7 +64,7 @@ Takes-behind b bytes x rest p = record { parts = ap (λ (l : List ℕ). b ∷ l)
 
 -- ---- numbers
 
-record IsWide (w : Width) (limit : ℕ) : Type 0 where
+pub record IsWide (w : Width) (limit : ℕ) : Type 0 where
   pub back : (bytes : List ℕ) → length bytes ≡ byte_len w → IsBytes bytes → to_be_bytes w (from_be_bytes w bytes) ≡ bytes
   pub under : (bytes : List ℕ) → IsBytes bytes → from_be_bytes w bytes < limit
 
@@ -74,14 +74,14 @@ wide16 = record { back = λ bytes len fits. be_bytes_2 bytes _ len fits refl; un
 wide32 : IsWide w32 (2 ^ 32)
 wide32 = record { back = λ bytes len fits. be_bytes_4 bytes _ len fits refl; under = λ bytes fits. omega (arith, fits 0, fits 1, fits 2, fits 3) }
 
-wide64 : IsWide w64 (2 ^ 64)
+pub wide64 : IsWide w64 (2 ^ 64)
 wide64 = record { back = λ bytes len fits. be_bytes_8 bytes _ len fits refl; under = λ bytes fits. omega (arith, fits 0, fits 1, fits 2, fits 3, fits 4, fits 5, fits 6, fits 7) }
 
 guard_none : {A : Type 0} (b : Bool) (x y : A) → cond b None (Some x) ≡ Some y → (b ≡ false) × (x ≡ y)
 guard_none true x y e = absurd cc
 guard_none false x y e = (refl, cc)
 
-number_takes : (w : Width) (limit : ℕ) (wide : IsWide w limit) (bytes : List ℕ) (n : ℕ) (rest : List ℕ) → IsBytes bytes → number_at w bytes ≡ Some (n, rest) → Takes bytes (to_be_bytes w n) rest × (n < limit)
+pub number_takes : (w : Width) (limit : ℕ) (wide : IsWide w limit) (bytes : List ℕ) (n : ℕ) (rest : List ℕ) → IsBytes bytes → number_at w bytes ≡ Some (n, rest) → Takes bytes (to_be_bytes w n) rest × (n < limit)
 number_takes w limit wide bytes n rest fits e =
     let g = guard_none (ltb (length bytes) (byte_len w)) (from_be_bytes w (take (byte_len w) bytes), drop (byte_len w) bytes) (n, rest) e in
     let long : byte_len w ≤ length bytes = ltb-false _ _ g.0 in

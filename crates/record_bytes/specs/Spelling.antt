@@ -71,9 +71,13 @@ body_bytes (Once d) = data_bytes d
 unfoldable pub entry_bytes : Entry → List ℕ
 entry_bytes e = kind_of e.what ∷ path_bytes e.path ++ body_bytes e.what
 
--- a journal's head: 48 01, the name with its length, the fuel, the script to the end
+-- what a head begins with: 48 01, the name with its length; and what follows it
+unfoldable pub named_bytes : List ℕ → List ℕ → List ℕ
+named_bytes name rest = 72 ∷ 1 ∷ length name ∷ name ++ rest
+
+-- a journal's head: behind its name the fuel, and the script to the end
 unfoldable pub head_bytes : Head → List ℕ
-head_bytes h = 72 ∷ 1 ∷ length h.name ∷ h.name ++ to_be_bytes w64 h.fuel ++ h.script
+head_bytes h = named_bytes h.name (to_be_bytes w64 h.fuel ++ h.script)
 
 -- a task: its token and its text
 unfoldable pub task_bytes : List ℕ → List ℕ → List ℕ

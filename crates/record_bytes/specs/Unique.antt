@@ -4,10 +4,12 @@ use Rattle.std.specs.Prelude.{is_some}
 use Rattle.std.proofs.lemmas.Bool.{false≢true}
 use Rattle.std.proofs.lemmas.List.{append-nil}
 use Rattle.turk_base.specs.declared.Entry.{Entry}
-use Rattle.record_bytes.specs.Spelling.{entry_bytes, task_bytes}
-use Rattle.record_bytes.specs.Limits.{Spells, SpellsTask}
-use Rattle.record_bytes.specs.Reading.{◌>>=◌, entry_at, task_at, only, whole}
-use Rattle.record_bytes.specs.Again.{entry_again, task_again}
+use Rattle.std.specs.Int.{w64, to_be_bytes}
+use Rattle.record_bytes.specs.declared.Head.{Head}
+use Rattle.record_bytes.specs.Spelling.{entry_bytes, named_bytes, head_bytes, task_bytes}
+use Rattle.record_bytes.specs.Limits.{Spells, SpellsHead, SpellsTask}
+use Rattle.record_bytes.specs.Reading.{◌>>=◌, number_at, entry_at, task_at, only, whole}
+use Rattle.record_bytes.specs.Again.{number_again, holds64, entry_again, task_again}
 
 abbrev read : {A : Type 0} → A → List ℕ → Option (A × List ℕ)
 read x rest = Some (x, rest)
@@ -23,6 +25,31 @@ rest_in (Some p) = p.1
 some_is : {A : Type 0} (x y : A) (a b : List ℕ) → read x a ≡ read y b → (x ≡ y) × (a ≡ b)
 unfolding value_in rest_in
 some_is x y a b e = (ap (value_in x) e, ap rest_in e)
+
+head_in : List ℕ → ℕ
+head_in [] = 0
+head_in (x ∷ xs) = x
+
+tail_in : List ℕ → List ℕ
+tail_in [] = []
+tail_in (x ∷ xs) = xs
+
+heads : (x y : ℕ) (xs ys : List ℕ) → x ∷ xs ≡ y ∷ ys → x ≡ y
+unfolding head_in
+heads x y xs ys e = ap head_in e
+
+rests : (x y : ℕ) (xs ys : List ℕ) → x ∷ xs ≡ y ∷ ys → xs ≡ ys
+unfolding tail_in
+rests x y xs ys e = ap tail_in e
+
+-- two fronts of one length
+fronts : (a b x y : List ℕ) → length a ≡ length b → a ++ x ≡ b ++ y → (a ≡ b) × (x ≡ y)
+fronts [] [] x y same e = (refl, e)
+fronts [] (c ∷ b) x y same e = absurd (omega arith)
+fronts (c ∷ a) [] x y same e = absurd (omega arith)
+fronts (c ∷ a) (d ∷ b) x y same e =
+    let more = fronts a b x y (omega arith) (rests c d (a ++ x) (b ++ y) e) in
+    ((λ i. heads c d (a ++ x) (b ++ y) e i ∷ more.0 i), more.1)
 
 -- no spelling begins another
 pub no_front : (a b x y : List ℕ) (e f : Entry) → Spells a e → Spells b f → a ++ x ≡ b ++ y → (e ≡ f) × (x ≡ y)
@@ -65,3 +92,25 @@ one_task bytes a b c d of_a of_c = pair_is a c b d (sym (task_whole bytes a b of
 
 pub none_apart : {A : Type 0} (o : Option A) (x : A) → o ≡ None → o ≡ Some x → ⊥
 none_apart o x none some = false≢true (sym (ap is_some none) ∙ ap is_some some)
+
+-- ---- heads
+
+-- the name and what follows it are known from the bytes
+pub one_name : (name front rest back : List ℕ) → named_bytes name rest ≡ named_bytes front back → (name ≡ front) × (rest ≡ back)
+unfolding named_bytes
+one_name name front rest back e = fronts name front rest back (heads _ _ _ _ (rests _ _ _ _ (rests _ _ _ _ e))) (rests _ _ _ _ (rests _ _ _ _ (rests _ _ _ _ e)))
+
+-- what follows the name is the fuel and the script
+pub head_rest : (bytes name rest : List ℕ) (h : Head) → bytes ≡ named_bytes name rest → SpellsHead bytes h → (name ≡ h.name) × (number_at w64 rest ≡ Some (h.fuel, h.script))
+unfolding head_bytes
+head_rest bytes name rest h is spelled =
+    let two = one_name name h.name rest (to_be_bytes w64 h.fuel ++ h.script) (sym is ∙ spelled.bytes_are) in
+    (two.0, ap (number_at w64) two.1 ∙ number_again w64 (2 ^ 64) holds64 h.fuel h.script (omega (arith, spelled.within.fuel)))
+
+pub one_head : (bytes : List ℕ) (g h : Head) → SpellsHead bytes g → SpellsHead bytes h → g ≡ h
+unfolding head_bytes
+one_head bytes g h of_g of_h =
+    let two = head_rest bytes g.name (to_be_bytes w64 g.fuel ++ g.script) h of_g.bytes_are of_h in
+    let again = number_again w64 (2 ^ 64) holds64 g.fuel g.script (omega (arith, of_g.within.fuel)) in
+    let same = some_is g.fuel h.fuel g.script h.script (sym again ∙ two.1) in
+    λ i. record { name = two.0 i; fuel = same.0 i; script = same.1 i }

@@ -5,9 +5,12 @@ mod heads;
 mod records;
 mod stop;
 mod tasks;
+#[cfg(test)]
+mod tests;
 mod texts;
 mod trees;
 
+pub use heads::{decode_head, encode_head};
 pub use records::{decode, encode};
 pub use tasks::{decode_task, encode_task};
 use turk_base::{Bytes, Name};

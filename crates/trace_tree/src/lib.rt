@@ -3,6 +3,8 @@
 
 mod places;
 mod spot;
+#[cfg(test)]
+mod tests;
 
 ghost use Rattle.std.specs.Prelude.{◌≡◌, ◌≢◌, ◌↔◌, ◌++◌, [], ◌∷◌, ◌≤◌, ◌<◌, List, ℕ, length, take, false, Some, None, IfSome, IfNone, IfErr, IsNone, OnOk, OnErr, IsTrue, slice_get, not, ◌&&◌};
 ghost use Rattle.std.specs.Option.{option_copied};
