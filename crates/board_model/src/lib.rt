@@ -2,15 +2,13 @@
 #![tactic(auto)]
 
 mod memory;
+#[cfg(test)]
+mod tests;
 
 ghost use Rattle.std.specs.Prelude.{List, ℕ, length, ◌≤◌};
 
 pub use memory::MemoryBoard;
 use turk_base::Units;
-
-/// Want of memory.
-#[derive(Clone, Copy, Debug, Drop, PartialEq, Eq)]
-pub struct NoMemory;
 
 /// What a board answers to a post.
 #[derive(Drop)]

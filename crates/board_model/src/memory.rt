@@ -1,21 +1,21 @@
 //! A board in memory.
 
-ghost use Rattle.std.specs.Prelude.{◌≡◌, [], List, ℕ, None, Some, IfOk, MatchResult};
+ghost use Rattle.std.specs.Prelude.{◌≡◌, ◌↔◌, [], List, ℕ, None, Some, Contains, IfOk, IsErrOf, IsTrue, MatchResult};
 ghost use Rattle.std.specs.Option.{option_copied};
 ghost use Rattle.turk_base.specs.Trace.{answer};
 
-use crate::{Board, BoardStop, NoMemory, Posted};
+use crate::{Board, BoardStop, Posted};
 use std::alloc::Global;
 use std::marker::Model;
-use turk_base::Units;
+use turk_base::{NoMemory, Units};
 
-/// A board in memory, which fails at the calls that it was made with, counted from 1, and adds nothing there.
+/// A board in memory. It fails exactly at the posts that it was made with, counted from 1, and adds nothing there.
 #[derive(Drop)]
 pub struct MemoryBoard {
     alloc: Global,
     tasks: Vec<(Units, Units)>,
     fails: Vec<u32>,
-    calls: u32,
+    calls: u64,
     faults: u64,
 }
 
@@ -24,7 +24,7 @@ impl Model for MemoryBoard {
 
     ghost Value = { Kept };
 
-    ghost view = { λ b. record { tasks = b.tasks.items; faults = b.faults } };
+    ghost view = { λ b. record { tasks = b.tasks.items; fails = b.fails.items; calls = b.calls; faults = b.faults } };
 
     ghost invariant = { λ b. HasDistinctTokens b.tasks.items };
 }
@@ -32,7 +32,10 @@ impl Model for MemoryBoard {
 impl MemoryBoard {
     /// A board without tasks, which fails at the listed posts, counted from 1.
     pub fn new(alloc: Global, fails: &[u32]) -> Result<MemoryBoard, NoMemory>
-        ensures { IfOk result (λ b. (b.tasks ≡ []) × (b.faults ≡ 0)) }
+        ensures empty { IfOk result (λ b. b.tasks ≡ []) }
+        ensures listed { IfOk result (λ b. b.fails ≡ fails.now) }
+        ensures unused { IfOk result (λ b. b.calls ≡ 0) }
+        ensures sound { IfOk result (λ b. b.faults ≡ 0) }
     {
         match Vec::from_slice(alloc, fails) {
             Ok(fails) => Ok(MemoryBoard {
@@ -55,7 +58,10 @@ impl MemoryBoard {
 }
 
 impl Board for MemoryBoard {
-    ghost use Rattle.std.specs.Prelude.{⊤};
+    ghost use Rattle.std.specs.Prelude.{⊤, length, ◌≤◌};
+    ghost use Rattle.board_model.specs.Board.{HasCause, IsHonest};
+    ghost use Rattle.board_model.specs.Tokens.{HasDistinctTokens};
+    ghost use Rattle.board_model.specs.Kept.{one_more};
 
     ghost tells = { ⊤ };
 
@@ -63,10 +69,21 @@ impl Board for MemoryBoard {
 
     ghost faults = { λ b. b.faults };
 
+    /// Posts a task. It fails exactly where the number of this post is listed, and then adds nothing.
     #[tactic(auto, using(crate::proofs::Added::tasks_push))]
-    fn post(&mut self, token: &Units, text: &Units) -> Result<Posted, BoardStop> {
+    fn post(&mut self, token: &Units, text: &Units) -> Result<Posted, BoardStop>
+        ensures distinct { HasDistinctTokens self.new.tasks }
+        ensures honest { IsHonest token.now text.now self.old.tasks self.new.tasks result }
+        ensures cause { HasCause self.old.faults self.new.faults result }
+        ensures called { self.new.calls ≡ one_more self.old.calls }
+        ensures listed { self.new.fails ≡ self.old.fails }
+        ensures failed { IsErrOf result BoardStop.Failed ↔ Contains self.old.fails self.new.calls }
+        ensures untouched { IsErrOf result BoardStop.Failed → self.new.tasks ≡ self.old.tasks }
+        ensures counted { IsErrOf result BoardStop.Failed → self.new.faults ≡ one_more self.old.faults }
+        ensures sound { (IsErrOf result BoardStop.Failed → ⊥) → self.new.faults ≡ self.old.faults }
+    {
         self.calls = self.calls.saturating_add(1);
-        if self.fails.contains(&self.calls) {
+        if is_listed(&self.fails, self.calls) {
             self.faults = self.faults.saturating_add(1);
             return Err(BoardStop::Failed);
         }
@@ -84,6 +101,16 @@ impl Board for MemoryBoard {
                 Ok(Posted::New)
             }
         }
+    }
+}
+
+// That a post of this number is to fail.
+fn is_listed(fails: &[u32], call: u64) -> bool
+    ensures { IsTrue result ↔ Contains fails.now call }
+{
+    match u32::try_from(call) {
+        Ok(call) => fails.contains(&call),
+        Err(_) => false,
     }
 }
 
