@@ -7,8 +7,9 @@ use Rattle.std.proofs.lemmas.Bool.Decides.{nat_tests}
 pub sum_by-at : {X : Type 0} (f : X → ℕ) (xs : List X) (i : ℕ) (d : X) → i < length xs → d ≡ get_or xs i d
     → sum_by f (drop i xs) ≡ f d + sum_by f (drop (i + 1) xs)
 sum_by-at f xs i d h is =
-    ap (sum_by f) (drop-cons xs i d h) ∙ ap (λ (k : ℕ). f (get_or xs i d) + sum_by f (drop k xs)) (sym (add-one i))
-    ∙ ap (λ x. f x + sum_by f (drop (i + 1) xs)) (sym is)
+    let e : drop i xs ≡ get_or xs i d ∷ drop (i + 1) xs = drop-cons xs i d h ∙ ap (λ (k : ℕ). get_or xs i d ∷ drop k xs) (sym (add-one i)) in
+    let g : drop i xs ≡ d ∷ drop (i + 1) xs = e ∙ ap (λ x. x ∷ drop (i + 1) xs) (sym is) in
+    ap (sum_by f) g
 
 pub too_much : (n : ℕ) → 2 ^ 53 < n → nat_le n (2 ^ 53) ≡ false
 too_much n h = grind (arith, nat_tests)
