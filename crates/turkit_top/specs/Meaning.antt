@@ -24,9 +24,13 @@ sum_value bindings s = sum_by (term_value bindings) s
 abbrev pub fits : List Binding → List Term → Bool
 fits bindings s = nat_le (sum_value bindings s) (2 ^ 53)
 
+-- The name has the sum's value from now on.
+abbrev pub bound : List Binding → List ℕ → List Term → List Binding
+bound bindings name s = bindings ++ record { name = name; value = sum_value bindings s } ∷ []
+
 -- The decimal texts, joined by a space, and a line feed.
 abbrev pub line : List Binding → List (List Term) → List ℕ
-line bindings ss = join_with_byte 32 (map (λ s. decimal (sum_value bindings s)) ss) ++ 10 ∷ []
+line bindings ss = join_with_byte 32 (map decimal (map (sum_value bindings) ss)) ++ 10 ∷ []
 
 -- A script that stops at a sum out of range; nothing of its statement is written.
 abbrev pub refused : Ran
@@ -40,6 +44,6 @@ after text ran = record { output = text ++ ran.output; finished = ran.finished }
 abbrev pub writes : List Binding → List Statement → Ran
 writes bindings [] = record { output = []; finished = true }
 writes bindings (Var x s ∷ rest) =
-    if fits bindings s then writes (bindings ++ record { name = x; value = sum_value bindings s } ∷ []) rest else refused
+    if fits bindings s then writes (bound bindings x s) rest else refused
 writes bindings (Print ss ∷ rest) =
     if list_all (fits bindings) ss then after (line bindings ss) (writes bindings rest) else refused

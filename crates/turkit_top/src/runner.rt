@@ -1,8 +1,9 @@
 //! Runs statements.
 
-ghost use Rattle.std.specs.Prelude.{◌≡◌, ◌+◌, ◌<◌, ◌≤◌, ◌^◌, [], ◌∷◌, ◌++◌, true, false, map, decimal, MatchOption, IfOk};
-ghost use Rattle.std.specs.List.{list_all, join_with_byte};
-ghost use Rattle.turkit_top.specs.Meaning.{value_of, term_value, sum_value, fits, writes};
+ghost use Rattle.std.specs.Prelude.{◌≡◌, ◌+◌, ◌<◌, ◌≤◌, ◌^◌, List, [], ◌∷◌, ◌++◌, true, false, map, decimal, if◌then◌else◌, MatchOption, IfOk};
+ghost use Rattle.std.specs.List.{list_all, flat_map, join_with_byte};
+ghost use Rattle.turkit_top.specs.Meaning.{value_of, term_value, sum_value, fits, bound, line, after, writes};
+ghost use Rattle.turkit_top.specs.declared.tree.Statement.{Statement};
 
 use crate::tree::{Statement, Sum, Term};
 use itoa::Buffer;
@@ -60,6 +61,15 @@ fn summed(bindings: &[Binding], terms: &[Term]) -> Option<u64>
     Some(sum)
 }
 
+fn keep(values: &mut Vec<u64>, value: u64) -> Result<(), NoMemory>
+    ensures { IfOk result (λ _. values.new.items ≡ values.old.items ++ value ∷ []) }
+{
+    match values.push(value) {
+        Ok(()) => Ok(()),
+        Err(_) => Err(NoMemory),
+    }
+}
+
 fn all_summed(alloc: Global, bindings: &[Binding], sums: &[Sum]) -> Result<Option<Vec<u64>>, NoMemory>
     ensures { IfOk result (λ o. MatchOption o (list_all (fits bindings.now) sums.now ≡ false)
         (λ v. (v.items ≡ map (sum_value bindings.now) sums.now) × (list_all (fits bindings.now) sums.now ≡ true))) }
@@ -69,26 +79,92 @@ fn all_summed(alloc: Global, bindings: &[Binding], sums: &[Sum]) -> Result<Optio
         let Some(value) = summed(bindings, sum.as_slice()) else {
             return Ok(None);
         };
-        if values.push(value).is_err() {
-            return Err(NoMemory);
-        }
+        keep(&mut values, value)?;
     }
     Ok(Some(values))
+}
+
+fn push_number(output: &mut Bytes, number: u64) -> Result<(), NoMemory>
+    ensures { IfOk result (λ _. output.new ≡ output.old ++ decimal number) }
+{
+    let mut buffer = Buffer::new();
+    output.push_slice(buffer.format(number).as_bytes())
+}
+
+/// Adds decimal texts, each behind a space.
+fn push_more(output: &mut Bytes, values: &[u64]) -> Result<(), NoMemory>
+    ensures { IfOk result (λ _. output.new ≡ output.old ++ flat_map (λ v. 32 ∷ decimal v) values.now) }
+{
+    for value in values {
+        output.push(b' ')?;
+        push_number(output, *value)?;
+    }
+    Ok(())
+}
+
+/// Adds the decimal texts, joined by a space.
+fn push_joined(output: &mut Bytes, values: &[u64]) -> Result<(), NoMemory>
+    ensures { IfOk result (λ _. output.new ≡ output.old ++ join_with_byte 32 (map decimal values.now)) }
+{
+    match values.split_first() {
+        None => Ok(()),
+        Some((first, rest)) => {
+            push_number(output, *first)?;
+            push_more(output, rest)
+        }
+    }
 }
 
 /// Adds the decimal texts, joined by a space, and a line feed.
 fn push_line(output: &mut Bytes, values: &[u64]) -> Result<(), NoMemory>
     ensures { IfOk result (λ _. output.new ≡ output.old ++ (join_with_byte 32 (map decimal values.now) ++ 10 ∷ [])) }
 {
-    let mut buffer = Buffer::new();
-    if let Some((first, rest)) = values.split_first() {
-        output.push_slice(buffer.format(*first).as_bytes())?;
-        for value in rest {
-            output.push(b' ')?;
-            output.push_slice(buffer.format(*value).as_bytes())?;
-        }
-    }
+    push_joined(output, values)?;
     output.push(b'\n')
+}
+
+fn give(bindings: &mut Vec<Binding>, name: Bytes, value: u64) -> Result<(), NoMemory>
+    ensures { IfOk result (λ _. bindings.new.items ≡ bindings.old.items ++ record { name = name; value = value } ∷ []) }
+{
+    match bindings.push(Binding { name, value }) {
+        Ok(()) => Ok(()),
+        Err(_) => Err(NoMemory),
+    }
+}
+
+/// Gives a name a value. False: the sum is out of range.
+fn bind(alloc: Global, bindings: &mut Vec<Binding>, name: &Bytes, sum: &Sum) -> Result<bool, NoMemory>
+    ensures { IfOk result (λ went. (went ≡ fits bindings.old.items sum.now) × (bindings.new.items ≡ (if went then bound bindings.old.items name.now sum.now else bindings.old.items))) }
+{
+    let Some(value) = summed(bindings.as_slice(), sum.as_slice()) else {
+        return Ok(false);
+    };
+    let name = name.copy(alloc)?;
+    give(bindings, name, value)?;
+    Ok(true)
+}
+
+/// Adds a line of sums. False: one of them is out of range, and nothing was added.
+fn print(alloc: Global, bindings: &[Binding], output: &mut Bytes, sums: &[Sum]) -> Result<bool, NoMemory>
+    ensures { IfOk result (λ went. (went ≡ list_all (fits bindings.now) sums.now) × (output.new ≡ (if went then output.old ++ line bindings.now sums.now else output.old))) }
+{
+    let Some(values) = all_summed(alloc, bindings, sums)? else {
+        return Ok(false);
+    };
+    push_line(output, values.as_slice())?;
+    Ok(true)
+}
+
+/// Runs one statement. False: the script stops here.
+#[tactic(auto, using(crate::proofs::RunLemmas::var_step, crate::proofs::RunLemmas::print_step))]
+fn step(alloc: Global, bindings: &mut Vec<Binding>, output: &mut Bytes, statement: &Statement) -> Result<bool, NoMemory>
+    ensures { IfOk result (λ went. (rest : List Statement) → after output.old (writes bindings.old.items (statement.now ∷ rest))
+        ≡ (if went then after output.new (writes bindings.new.items rest) else record { output = output.new; finished = false })) }
+{
+    match statement {
+        Statement::Var(name, sum) => bind(alloc, bindings, name, sum),
+        Statement::Print(sums) => print(alloc, bindings.as_slice(), output, sums.as_slice()),
+    }
 }
 
 /// Runs a script's statements in order.
@@ -98,22 +174,8 @@ pub fn run(alloc: Global, statements: &[Statement]) -> Result<Ran, NoMemory>
     let mut bindings: Vec<Binding> = Vec::new(alloc);
     let mut output = Bytes::new(alloc);
     for statement in statements {
-        match statement {
-            Statement::Var(name, sum) => {
-                let Some(value) = summed(bindings.as_slice(), sum.as_slice()) else {
-                    return Ok(Ran { output, finished: false });
-                };
-                let name = name.copy(alloc)?;
-                if bindings.push(Binding { name, value }).is_err() {
-                    return Err(NoMemory);
-                }
-            }
-            Statement::Print(sums) => {
-                let Some(values) = all_summed(alloc, bindings.as_slice(), sums.as_slice())? else {
-                    return Ok(Ran { output, finished: false });
-                };
-                push_line(&mut output, values.as_slice())?;
-            }
+        if !step(alloc, &mut bindings, &mut output, statement)? {
+            return Ok(Ran { output, finished: false });
         }
     }
     Ok(Ran { output, finished: true })
