@@ -1,3 +1,4 @@
+pub mod AnswerLemmas
 pub mod LexerLemmas
 pub mod ListLemmas
 pub mod RunLemmas

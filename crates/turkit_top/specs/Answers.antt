@@ -1,10 +1,11 @@
 -- What a command is to answer, and what it wrote (own rule).
-use Rattle.std.specs.Prelude.{◌≡◌, ℕ, ◌≤◌, ◌<◌, List, [], ◌∷◌, Bool, true, false, ◌&&◌, ◌==◌, not, codes, length, take, Option, IfSome, nat_eq}
+use Rattle.std.specs.Prelude.{◌≡◌, ℕ, ◌≤◌, ◌<◌, List, [], ◌∷◌, Bool, true, false, ◌&&◌, ◌==◌, not, codes, length, take, Option, IfSome, nat_eq, if◌then◌else◌}
 use Rattle.std.specs.Cmp.Lexicographic.{pointwise}
 use Rattle.std.specs.Io.KnownBytes.{Appends, Consumes, IsAtEnd, Keeps}
 use Rattle.outside.specs.Faults.{Rose}
 use Rattle.turkit_top.specs.Meaning.{writes}
 use Rattle.turkit_top.specs.Scripts.{NoScript, OnlyScript}
+use Rattle.turkit_top.specs.declared.runner.Ran.{Ran}
 use Rattle.turkit_top.specs.declared.status.Status.{Status}
 use Rattle.turkit_top.specs.declared.status.Status.TheVariants.{Finished, Ended, ReadFault, WriteFault, Memory, TooLarge, NotBuilt}
 use Rattle.turkit_top.specs.declared.top.Answer.{Answer}
@@ -30,10 +31,13 @@ is_plain (w ∷ v ∷ u ∷ ws) = false
 abbrev pub nothing : Status → Answer
 nothing status = record { status = status; output = [] }
 
+-- How a run ends: with what it wrote, and whether it was refused.
+abbrev pub ending : Ran → Answer
+ending ran = record { status = if ran.finished then Finished else Ended; output = ran.output }
+
 -- What a script's bytes come to. Want of memory has no cause here.
 pub data IsAnswerOf (bytes : List ℕ) : Answer → Type 0 where
-  finished : {ss : List Statement} → OnlyScript bytes ss → (writes [] ss).finished ≡ true → IsAnswerOf bytes (record { status = Finished; output = (writes [] ss).output })
-  ended : {ss : List Statement} → OnlyScript bytes ss → (writes [] ss).finished ≡ false → IsAnswerOf bytes (record { status = Ended; output = (writes [] ss).output })
+  ran : {ss : List Statement} → OnlyScript bytes ss → IsAnswerOf bytes (ending (writes [] ss))
   not_built : NoScript bytes → IsAnswerOf bytes (nothing NotBuilt)
   no_memory : IsAnswerOf bytes (nothing Memory)
 
@@ -43,6 +47,11 @@ pub data IsDue (before now : ℕ) (left rest : Option (List ℕ)) : Answer → T
   read_fault : Rose before now → IsDue before now left rest (nothing ReadFault)
   too_large : IfSome left (λ bytes. 1048576 < length bytes) → IsDue before now left rest (nothing TooLarge)
   memory : IsDue before now left rest (nothing Memory)
+
+-- What a command comes to, by its words and by what its source comes to. Wrong words leave the source alone.
+pub data IsAnswer (words : List (List ℕ)) (before now : ℕ) (left rest : Option (List ℕ)) : Answer → Type 0 where
+  wrong_words : is_plain words ≡ false → now ≡ before → rest ≡ left → IsAnswer words before now left rest (nothing NotBuilt)
+  of_source : {a : Answer} → is_plain words ≡ true → IsDue before now left rest a → IsAnswer words before now left rest a
 
 -- ---- what was written
 

@@ -1,17 +1,18 @@
 //! The top call.
 
 ghost use Rattle.std.specs.Prelude.{◌≡◌, ◌≤◌, [], codes, map, length, MatchResult};
-ghost use Rattle.turkit_top.specs.Answers.{IsAnswerOf, IsDue, IsGiven, is_file, is_plain, note_of, nothing};
+ghost use Rattle.turkit_top.specs.Answers.{IsAnswer, IsAnswerOf, IsDue, IsGiven, is_file, is_plain, ending, note_of, nothing};
 ghost use Rattle.turkit_top.specs.Reading.{Unless};
+ghost use Rattle.turkit_top.specs.declared.top.Answer.{Answer};
 ghost use Rattle.turkit_top.specs.Scripts.{NoScript, OnlyScript};
 
 use crate::lexer::tokens;
 use crate::reader::statements;
-use crate::runner::run;
+use crate::runner::{Ran, run};
 use crate::status::Status;
 use crate::stop::Stop;
 use crate::tree::Statement;
-use outside::{Failed, ReadStop, Sink, Source, read_all, write_all};
+use outside::{ReadStop, Sink, Source, read_all, write_all};
 use std::alloc::Global;
 use turk_base::Bytes;
 
@@ -65,6 +66,13 @@ fn script_of(alloc: Global, bytes: &[u8]) -> Result<Vec<Statement>, Stop>
     statements(alloc, tokens.as_slice())
 }
 
+fn ended(ran: Ran) -> Answer
+    ensures { result ≡ ending ran }
+{
+    let status = if ran.finished { Status::Finished } else { Status::Ended };
+    Answer { status, output: ran.output }
+}
+
 /// What a script's bytes come to.
 fn answer_of(alloc: Global, bytes: &[u8]) -> Answer
     ensures { IsAnswerOf bytes.now result }
@@ -75,10 +83,7 @@ fn answer_of(alloc: Global, bytes: &[u8]) -> Answer
         Err(Stop::Memory) => return without_output(alloc, Status::Memory),
     };
     match run(alloc, script.as_slice()) {
-        Ok(ran) => {
-            let status = if ran.finished { Status::Finished } else { Status::Ended };
-            Answer { status, output: ran.output }
-        }
+        Ok(ran) => ended(ran),
         Err(_) => without_output(alloc, Status::Memory),
     }
 }
@@ -112,17 +117,27 @@ fn note(status: Status) -> &'static [u8]
 
 /// Writes the output, and then the note.
 fn give<O: Sink>(answer: &Answer, out: &mut O, notes: &mut O) -> Status
-    ensures { IsGiven answer.now
+    ensures given { IsGiven answer.now
         (record { before = O.faults out.old; now = O.faults out.new; old = O.written out.old; new = O.written out.new })
         (record { before = O.faults notes.old; now = O.faults notes.new; old = O.written notes.old; new = O.written notes.new }) result }
+    ensures out_count { O.faults out.old ≤ O.faults out.new }
+    ensures notes_count { O.faults notes.old ≤ O.faults notes.new }
 {
-    if write_all(out, answer.output.as_slice()).is_err() {
-        return Status::WriteFault;
+    match write_all(out, answer.output.as_slice()) {
+        Ok(()) => match write_all(notes, note(answer.status)) {
+            Ok(()) => answer.status,
+            Err(_) => Status::WriteFault,
+        },
+        Err(_) => Status::WriteFault,
     }
-    if write_all(notes, note(answer.status)).is_err() {
-        return Status::WriteFault;
-    }
-    answer.status
+}
+
+/// What a command comes to.
+fn carry_out<S: Source>(alloc: Global, words: &[&str], script: &mut S) -> Answer
+    ensures count { S.faults script.old ≤ S.faults script.new }
+    ensures answer { IsAnswer (map (λ w. w.now) words.now) (S.faults script.old) (S.faults script.new) (S.left script.old) (S.left script.new) result }
+{
+    if plain(words) { due(alloc, script) } else { without_output(alloc, Status::NotBuilt) }
 }
 
 /// Runs a command: the words after the program's name, the script, and where the output and the
@@ -133,9 +148,15 @@ pub fn turkit<S: Source, O: Sink>(
     script: &mut S,
     out: &mut O,
     notes: &mut O,
-) -> Status {
-    if !plain(words) {
-        return give(&without_output(alloc, Status::NotBuilt), out, notes);
-    }
-    give(&due(alloc, script), out, notes)
+) -> Status
+    ensures answer { (a : Answer) × IsAnswer (map (λ w. w.now) words.now) (S.faults script.old) (S.faults script.new) (S.left script.old) (S.left script.new) a
+        × IsGiven a
+            (record { before = O.faults out.old; now = O.faults out.new; old = O.written out.old; new = O.written out.new })
+            (record { before = O.faults notes.old; now = O.faults notes.new; old = O.written notes.old; new = O.written notes.new }) result }
+    ensures script_count { S.faults script.old ≤ S.faults script.new }
+    ensures out_count { O.faults out.old ≤ O.faults out.new }
+    ensures notes_count { O.faults notes.old ≤ O.faults notes.new }
+{
+    let answer = carry_out(alloc, words, script);
+    give(&answer, out, notes)
 }
