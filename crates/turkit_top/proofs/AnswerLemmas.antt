@@ -1,17 +1,15 @@
 -- How the top call's steps give its answer.
-use Rattle.std.proofs.Common.{◌≡◌, ℕ, ◌≤◌, ◌<◌, List, [], take, length, Bool, true, false, Option, sym, ap, subst, ◌∙◌}
-use Rattle.std.specs.Prelude.{IfSome}
+use Rattle.std.proofs.Common.{◌≡◌, ℕ, ◌≤◌, List, [], take, length, Bool, true, false, Option, sym, ap, subst, ◌∙◌}
 use Rattle.std.specs.Io.KnownBytes.{Appends, Consumes, IsAtEnd}
 use Rattle.outside.specs.Faults.{Rose}
 use Rattle.outside.specs.Reading.{HasCause}
 use Rattle.outside.specs.declared.source.ReadStop.{ReadStop}
-use Rattle.outside.specs.declared.source.ReadStop.TheVariants.{Fault, TooLarge as TooLargeStop, Memory as MemoryStop}
+use Rattle.outside.specs.declared.source.ReadStop.TheVariants.{Fault, TooLarge as TooLargeStop}
 use Rattle.turkit_top.specs.Answers.{IsAnswer, IsAnswerOf, IsDue, IsGiven, Writing, is_plain, ending, note_of, nothing, ran, not_built, no_memory, of_bytes, read_fault, too_large, memory, wrong_words, of_source, given, out_failed, notes_failed}
 use Rattle.turkit_top.specs.Meaning.{writes}
 use Rattle.turkit_top.specs.Reading.{Unless}
 use Rattle.turkit_top.specs.Scripts.{NoScript, OnlyScript}
 use Rattle.turkit_top.specs.declared.runner.Ran.{Ran}
-use Rattle.turkit_top.specs.declared.status.Status.{Status}
 use Rattle.turkit_top.specs.declared.status.Status.TheVariants.{WriteFault, Memory, NotBuilt, ReadFault, TooLarge}
 use Rattle.turkit_top.specs.declared.stop.Stop.{Stop}
 use Rattle.turkit_top.specs.declared.stop.Stop.TheVariants.{NotBuilt as NotBuiltStop}
@@ -71,7 +69,7 @@ pub gave_no_note : (a : Answer) (out notes : Writing) (seen text : List ℕ) →
     → (n : ℕ) × (n ≤ length text) × Appends notes.old notes.new (take n text) → IsGiven a out notes WriteFault
 gave_no_note a out notes seen text same is all rose (n, short, front) =
     notes_failed {n = n} rose (subst (λ l. Appends out.old out.new l) same all) (subst (λ l. n ≤ length l) is short)
-        (subst (λ l. Appends notes.old notes.new (take n l)) is front)
+    (subst (λ l. Appends notes.old notes.new (take n l)) is front)
 
 pub gave_front : (a : Answer) (out notes : Writing) (seen : List ℕ) → seen ≡ a.output → Rose out.before out.now
     → (n : ℕ) × (n ≤ length seen) × Appends out.old out.new (take n seen) → notes.new ≡ notes.old → IsGiven a out notes WriteFault

@@ -1,19 +1,19 @@
 -- How the lexer's steps follow the definition of tokens.
-use Rattle.std.proofs.Common.{◌≡◌, ℕ, zero, suc, ◌+◌, ◌*◌, ◌-◌, ◌<◌, ◌≤◌, ◌^◌, List, [], ◌∷◌, ◌++◌, length, take, drop, refl, sym, ap, ◌∙◌, subst, arith, ◌≢◌, lit<, append_assoc, append-nil, get_or}
+use Rattle.std.proofs.Common.{◌≡◌, ℕ, suc, ◌+◌, ◌*◌, ◌-◌, ◌<◌, ◌≤◌, List, [], ◌∷◌, ◌++◌, length, take, drop, refl, sym, ap, ◌∙◌, subst, arith, ◌≢◌, lit<, append_assoc, append-nil, get_or}
 use Rattle.std.proofs.Common.{Bool}
 use Rattle.std.proofs.Math.Seq.{drop-cons}
 use Rattle.std.proofs.lemmas.List.{take_rest, length-drop}
 use Rattle.std.proofs.lemmas.List.Sums.{prefix_len-le-length}
 use Rattle.std.specs.List.{prefix_len}
 use Rattle.turkit_top.specs.Classes.{head_class, is_letter, is_digit}
-use Rattle.turkit_top.specs.Literals.{IsLiteral, NoLiteral, number_of, number_from, IsShort}
+use Rattle.turkit_top.specs.Literals.{IsLiteral, NoLiteral, number_from}
 use Rattle.turkit_top.specs.Reading.{OnlyTokens, NoTokens, Takes}
 use Rattle.turkit_top.specs.Tokens.{Tokens, ended, gap, mark, word, number, run_len, word_token}
 use Rattle.turkit_top.specs.declared.token.Class.{Class}
 use Rattle.turkit_top.specs.declared.token.Class.TheVariants.{End, Space, Letter, Digit, Mark, Other}
 use Rattle.turkit_top.specs.declared.token.Mark.{Mark as TheMark}
 use Rattle.turkit_top.specs.declared.token.Token.{Token}
-use Rattle.turkit_top.specs.declared.token.Token.TheVariants.{Var, Print, Word, Number, Mark as MarkToken}
+use Rattle.turkit_top.specs.declared.token.Token.TheVariants.{Number, Mark as MarkToken}
 
 -- a number only grows
 pub number_from-ge : (ds : List ℕ) (n : ℕ) → n ≤ number_from n ds

@@ -1,5 +1,5 @@
 -- How the reader's steps through the sums of a `print` follow the spelling.
-use Rattle.std.proofs.Common.{◌≡◌, ℕ, ◌+◌, ◌-◌, ◌<◌, ◌≤◌, Bool, true, false, List, [], ◌∷◌, ◌++◌, length, take, drop, refl, sym, ap, ◌∙◌, subst, arith, append_assoc, append-nil, suc}
+use Rattle.std.proofs.Common.{◌≡◌, ℕ, ◌+◌, ◌-◌, ◌<◌, ◌≤◌, true, List, [], ◌∷◌, ◌++◌, length, take, drop, refl, sym, ap, ◌∙◌, subst, arith, append_assoc, append-nil}
 use Rattle.std.proofs.lemmas.List.{length-append, length-drop, drop-drop, take_rest}
 use Rattle.std.specs.List.{list_all}
 use Rattle.turkit_top.proofs.SumLemmas.{and_left, and_right, and_both, begins_with, unless, goes_on}
@@ -38,9 +38,10 @@ pub sums_start : (names : List (List ℕ)) (ts : List Token) (s : List Term) (n 
 sums_start names ts s n k = record {
   some = let is : length (s ∷ []) ≡ 1 = refl in omega arith;
   ends = k.reads.ends;
-  are = λ ys r e a.
-      (k.reads.is ∙ ap (λ l. sum_tokens s ++ l) e ∙ sym (append_assoc (sum_tokens s) (more_sums ys) r),
-      and_both (is_sum names s) (list_all (is_sum names) ys) k.reads.known a);
+  are = λ ys r e a. (
+    k.reads.is ∙ ap (λ l. sum_tokens s ++ l) e ∙ sym (append_assoc (sum_tokens s) (more_sums ys) r),
+    and_both (is_sum names s) (list_all (is_sum names) ys) k.reads.known a,
+  );
   only = λ z r q. first z r q;
 }
   where
@@ -58,7 +59,7 @@ sums_more names ts rest ss s n comma k f = record {
   ends = k.reads.ends;
   are = λ ys r e a.
       let whole : rest ≡ Mark Comma ∷ ((sum_tokens s ++ more_sums ys) ++ r) =
-          comma ∙ ap (λ l. Mark Comma ∷ l) (k.reads.is ∙ ap (λ l. sum_tokens s ++ l) e ∙ sym (append_assoc (sum_tokens s) (more_sums ys) r)) in
+      comma ∙ ap (λ l. Mark Comma ∷ l) (k.reads.is ∙ ap (λ l. sum_tokens s ++ l) e ∙ sym (append_assoc (sum_tokens s) (more_sums ys) r)) in
       let b = f.are (s ∷ ys) r whole (and_both (is_sum names s) (list_all (is_sum names) ys) k.reads.known a) in
       subst (λ l. (ts ≡ sums_tokens l ++ r) × (list_all (is_sum names) l ≡ true)) (sym (append_assoc ss (s ∷ []) ys)) b;
   only = λ z r q. next z r q (f.only z r q);
@@ -70,7 +71,7 @@ sums_more names ts rest ss s n comma k f = record {
     next z r q ([], ez, er, ea) = absurd (q.ends (subst (λ l. Begins Comma l) er comma))
     next z r q (u ∷ us, ez, er, ea) =
         let a = k.only u (more_sums us ++ r)
-            (first_sum names (drop 1 rest) r u us (ap (drop 1) er) (and_left (is_sum names u) (list_all (is_sum names) us) ea) q.ends_sum) in
+        (first_sum names (drop 1 rest) r u us (ap (drop 1) er) (and_left (is_sum names u) (list_all (is_sum names) us) ea) q.ends_sum) in
         (us, ez ∙ ap (λ v. ss ++ v ∷ us) a.0 ∙ sym (append_assoc ss (s ∷ []) us), sym a.1, and_right (is_sum names u) (list_all (is_sum names) us) ea)
 
 no_more : (ys : List (List Term)) (rest r : List Token) → rest ≡ more_sums ys ++ r → (Begins Comma rest → ⊥) → ys ≡ []
@@ -89,8 +90,9 @@ sums_end names ts rest ss n stop within is f = record {
     here =
         let b = f.are [] rest refl refl in
         let c : (ts ≡ sums_tokens ss ++ rest) × (list_all (is_sum names) ss ≡ true) =
-            subst (λ l. (ts ≡ sums_tokens l ++ rest) × (list_all (is_sum names) l ≡ true)) (append-nil ss) b in
-        record { is = c.0; some = f.some; known = c.1; ends = stop; ends_sum = f.ends; }
+        subst (λ l. (ts ≡ sums_tokens l ++ rest) × (list_all (is_sum names) l ≡ true)) (append-nil ss) b in
+        record { is = c.0; some = f.some; known = c.1; ends = stop; ends_sum = f.ends }
+
     one : (z : List (List Term)) (r : List Token) → ReadsSums names ts z r → (z ≡ ss) × (r ≡ rest)
     one z r q =
         let a = f.only z r q in
@@ -126,9 +128,9 @@ sums_more_at names ts ss z s i n comma k is f =
     let k1 : OnlySum names (drop (i + 1) ts) s n = subst (λ l. OnlySum names l s n) (take_rest ts (i + 1)) k in
     let k2 : OnlySum names (drop 1 (drop i ts)) s n = subst (λ l. OnlySum names l s n) (sym (drop-drop 1 i ts)) k1 in
     let g : SumsSoFar names ts (ss ++ s ∷ []) (drop n (drop 1 (drop i ts))) =
-        sums_more names ts (drop i ts) ss s n (subst (λ l. Begins Comma l) (take_rest ts i) comma) k2 f in
+    sums_more names ts (drop i ts) ss s n (subst (λ l. Begins Comma l) (take_rest ts i) comma) k2 f in
     let place : drop n (drop 1 (drop i ts)) ≡ drop (i + (1 + n)) ts =
-        ap (drop n) (drop-drop 1 i ts) ∙ drop-drop n (i + 1) ts ∙ ap (λ (k : ℕ). drop k ts) (omega arith) in
+    ap (drop n) (drop-drop 1 i ts) ∙ drop-drop n (i + 1) ts ∙ ap (λ (k : ℕ). drop k ts) (omega arith) in
     (omega (arith, k1.within, length-drop (i + 1) ts, before), subst (λ l. SumsSoFar names ts l (drop (i + (1 + n)) ts)) (sym is) (subst (λ l. SumsSoFar names ts (ss ++ s ∷ []) l) place g))
 
 pub sums_end_at : (names : List (List ℕ)) (ts : List Token) (ss : List (List Term)) (i : ℕ)
@@ -141,4 +143,4 @@ pub sums_no_next_at : (names : List (List ℕ)) (ts : List Token) (ss : List (Li
     → (e : Stop) → Unless e (NoSum names (take (length ts - (i + 1)) (drop (i + 1) ts))) → Unless e (NoSums names ts)
 sums_no_next_at names ts ss i comma f e u =
     unless e (λ none. sums_no_next names ts (drop i ts) ss (subst (λ l. Begins Comma l) (take_rest ts i) comma)
-        (subst (λ l. NoSum names l) (take_rest ts (i + 1) ∙ sym (drop-drop 1 i ts)) none) f) u
+    (subst (λ l. NoSum names l) (take_rest ts (i + 1) ∙ sym (drop-drop 1 i ts)) none) f) u

@@ -5,7 +5,7 @@ use Rattle.std.specs.List.{list_all, flat_map, join_with_byte}
 use Rattle.std.proofs.Math.Seq.{drop-cons}
 use Rattle.std.proofs.lemmas.List.Sums.{sum_by-cons}
 use Rattle.std.proofs.lemmas.Bool.Decides.{nat_tests}
-use Rattle.turkit_top.specs.Meaning.{sum_value, fits, bound, line, refused, after, writes}
+use Rattle.turkit_top.specs.Meaning.{fits, bound, line, refused, after, writes}
 use Rattle.turkit_top.specs.declared.runner.Binding.{Binding}
 use Rattle.turkit_top.specs.declared.runner.Ran.{Ran}
 use Rattle.turkit_top.specs.declared.tree.Term.{Term}
@@ -49,7 +49,7 @@ next_more xs i h old mid new total space added before =
     let text = decimal (get_or xs i 0) in
     let rest = flat_map (λ v. 32 ∷ decimal v) (drop (i + 1) xs) in
     ap (λ l. l ++ rest) (added ∙ ap (λ l. l ++ text) space ∙ append_assoc old (32 ∷ []) text) ∙ append_assoc old (32 ∷ text) rest
-        ∙ sym (ap (λ l. old ++ flat_map (λ v. 32 ∷ decimal v) l) (next_of xs i 0 h)) ∙ before
+    ∙ sym (ap (λ l. old ++ flat_map (λ v. 32 ∷ decimal v) l) (next_of xs i 0 h)) ∙ before
 
 -- the first text, and each further one behind a space
 pub joined : (x : ℕ) (xs : List ℕ) → join_with_byte 32 (map decimal (x ∷ xs)) ≡ decimal x ++ flat_map (λ v. 32 ∷ decimal v) xs
@@ -60,7 +60,7 @@ pub joined_all : (old mid values rest : List ℕ) (x : ℕ) → values ≡ x ∷
     → mid ++ flat_map (λ v. 32 ∷ decimal v) rest ≡ old ++ join_with_byte 32 (map decimal values)
 joined_all old mid values rest x is added =
     ap (λ l. l ++ flat_map (λ v. 32 ∷ decimal v) rest) added ∙ append_assoc old (decimal x) (flat_map (λ v. 32 ∷ decimal v) rest)
-        ∙ sym (ap (λ l. old ++ join_with_byte 32 (map decimal l)) is ∙ ap (λ l. old ++ l) (joined x rest))
+    ∙ sym (ap (λ l. old ++ join_with_byte 32 (map decimal l)) is ∙ ap (λ l. old ++ l) (joined x rest))
 
 -- ---- statements
 

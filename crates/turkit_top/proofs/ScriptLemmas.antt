@@ -1,12 +1,11 @@
 -- How the reader's steps through a script follow the spelling.
-use Rattle.std.proofs.Common.{◌≡◌, ℕ, Bool, true, false, ◌&&◌, List, [], ◌∷◌, ◌++◌, length, take, drop, refl, sym, ap, ◌∙◌, subst, append_assoc, append-nil, ◌-◌, ◌+◌, ◌<◌, ◌≤◌, arith}
+use Rattle.std.proofs.Common.{◌≡◌, ℕ, true, List, [], ◌∷◌, ◌++◌, length, take, drop, refl, sym, ap, ◌∙◌, subst, append_assoc, append-nil, ◌-◌, ◌+◌, ◌<◌, ◌≤◌, arith}
 use Rattle.std.proofs.lemmas.List.{take_rest, drop_all, drop-drop, length-drop}
 use Rattle.turkit_top.proofs.SumLemmas.{and_left, and_right, and_both, unless}
 use Rattle.turkit_top.specs.Reading.{Unless, ReadsStatement, NoStatement, OnlyStatement, ReadsAll, NoStatements, OnlyStatements}
 use Rattle.turkit_top.specs.Statements.{spelled, all_spelled, is_statement, are_statements, names_after}
 use Rattle.turkit_top.specs.declared.stop.Stop.{Stop}
 use Rattle.turkit_top.specs.declared.token.Token.{Token}
-use Rattle.turkit_top.specs.declared.token.Token.TheVariants.{Var as VarToken, Print as PrintToken}
 use Rattle.turkit_top.specs.declared.tree.Statement.{Statement}
 use Rattle.turkit_top.specs.declared.tree.Statement.TheVariants.{Var, Print}
 
@@ -17,7 +16,7 @@ pub record ScriptSoFar (ts : List Token) (names : List (List ℕ)) (ss : List St
 
 pub script_start : (ts : List Token) → ScriptSoFar ts [] [] ts
 script_start ts = record {
-  are = λ ys e a. record { is = e; known = a; };
+  are = λ ys e a. record { is = e; known = a };
   only = λ z q. (z, refl, q.is, q.known);
 }
 
@@ -35,7 +34,7 @@ script_end ts names ss rest none f = record {
 
 first_statement : (names : List (List ℕ)) (rest : List Token) (u : Statement) (us : List Statement) → rest ≡ spelled u ++ all_spelled us
     → are_statements names (u ∷ us) ≡ true → ReadsStatement names rest u (all_spelled us)
-first_statement names rest u us e a = record { is = e; known = and_left (is_statement names u) (are_statements (names_after names u) us) a; }
+first_statement names rest u us e a = record { is = e; known = and_left (is_statement names u) (are_statements (names_after names u) us) a }
 
 -- a statement has tokens
 spells : (w : Statement) (r : List Token) → [] ≡ spelled w ++ r → ⊥
@@ -51,7 +50,7 @@ script_more ts names after ss z s n rest next k named is cut f =
     (subst (λ l. ScriptSoFar ts (names_after names s) (ss ++ s ∷ []) l) (sym cut) record {
       are = λ ys e a.
           let b = f.are (s ∷ ys) (k.reads.is ∙ ap (λ l. spelled s ++ l) e)
-              (and_both (is_statement names s) (are_statements (names_after names s) ys) k.reads.known a) in
+          (and_both (is_statement names s) (are_statements (names_after names s) ys) k.reads.known a) in
           subst (λ l. ReadsAll ts l) (sym (append_assoc ss (s ∷ []) ys)) b;
       only = λ v q. following v (f.only v q);
     }))
@@ -60,10 +59,13 @@ script_more ts names after ss z s n rest next k named is cut f =
         → (ys : List Statement) × (v ≡ (ss ++ s ∷ []) ++ ys) × (drop n rest ≡ all_spelled ys) × (are_statements (names_after names s) ys ≡ true)
     following v ([], ev, er, ea) = absurd (spells s (drop n rest) (sym er ∙ k.reads.is))
     following v (u ∷ us, ev, er, ea) =
-        let a = k.only u (all_spelled us) (first_statement names rest u us er ea) in
-        (us, ev ∙ ap (λ w. ss ++ w ∷ us) a.0 ∙ sym (append_assoc ss (s ∷ []) us), sym a.1,
-        subst (λ w. are_statements (names_after names w) us ≡ true) a.0
-            (and_right (is_statement names u) (are_statements (names_after names u) us) ea))
+        let a = k.only u (all_spelled us) (first_statement names rest u us er ea) in (
+          us,
+          ev ∙ ap (λ w. ss ++ w ∷ us) a.0 ∙ sym (append_assoc ss (s ∷ []) us),
+          sym a.1,
+          subst (λ w. are_statements (names_after names w) us ≡ true) a.0
+              (and_right (is_statement names u) (are_statements (names_after names u) us) ea),
+        )
 
 pub script_no_more : (ts : List Token) (names : List (List ℕ)) (ss : List Statement) (rest : List Token) → (rest ≡ [] → ⊥)
     → ScriptSoFar ts names ss rest → (e : Stop) → Unless e (NoStatement names rest) → Unless e (NoStatements ts)
@@ -83,7 +85,7 @@ pub script_more_at : (ts : List Token) (names seen after : List (List ℕ)) (ss 
     → ScriptSoFar ts names ss (drop i ts) → (i + n ≤ length ts) × ScriptSoFar ts after z (drop (i + n) ts)
 script_more_at ts names seen after ss z s i n same before k named is f =
     let k1 : OnlyStatement names (drop i ts) s n =
-        subst (λ l. OnlyStatement l (drop i ts) s n) same (subst (λ l. OnlyStatement seen l s n) (take_rest ts i) k) in
+    subst (λ l. OnlyStatement l (drop i ts) s n) same (subst (λ l. OnlyStatement seen l s n) (take_rest ts i) k) in
     (omega (arith, k1.within, length-drop i ts, before), script_more ts names after ss z s n (drop i ts) (drop (i + n) ts) k1 named is (sym (drop-drop n i ts)) f)
 
 left_over : (ts : List Token) (i : ℕ) → i < length ts → drop i ts ≡ [] → ⊥

@@ -1,14 +1,14 @@
 -- How the reader's steps through a statement follow the spelling.
-use Rattle.std.proofs.Common.{◌≡◌, ℕ, ◌+◌, ◌-◌, ◌<◌, ◌≤◌, Bool, true, false, not, List, [], ◌∷◌, ◌++◌, length, take, drop, refl, sym, ap, ◌∙◌, subst, arith, append_assoc, append-nil, ◌&&◌, nat_lt}
-use Rattle.std.proofs.lemmas.List.{length-append, length-drop, drop-drop, take_rest}
+use Rattle.std.proofs.Common.{◌≡◌, ℕ, ◌+◌, ◌-◌, ◌<◌, ◌≤◌, Bool, true, false, not, List, [], ◌∷◌, ◌++◌, length, take, drop, refl, sym, ap, ◌∙◌, subst, arith, append_assoc, nat_lt}
+use Rattle.std.proofs.lemmas.List.{drop-drop, take_rest}
 use Rattle.std.proofs.lemmas.Bool.Decides.{nat_tests}
 use Rattle.std.specs.List.{list_all}
 use Rattle.turkit_top.proofs.SumLemmas.{and_left, and_right, and_both, begins_with, unless, goes_on, less_test}
 use Rattle.turkit_top.specs.Names.{is_reserved}
 use Rattle.turkit_top.specs.Reading.{Unless, Begins, BeginsPrint, EndsPrint, Heading, NoHeading, ReadsSum, NoSum, OnlySum, ReadsSums, NoSums, OnlySums, ReadsStatement, NoStatement, NoDeclaration, NoPrint, OnlyStatement}
-use Rattle.turkit_top.specs.Statements.{sum_tokens, sums_tokens, spelled, is_sum, is_statement}
+use Rattle.turkit_top.specs.Statements.{sum_tokens, sums_tokens, spelled, is_sum}
 use Rattle.turkit_top.specs.declared.stop.Stop.{Stop}
-use Rattle.turkit_top.specs.declared.token.Mark.TheVariants.{Plus, Comma, Equals, Open, Close, Semicolon}
+use Rattle.turkit_top.specs.declared.token.Mark.TheVariants.{Equals, Open, Close, Semicolon}
 use Rattle.turkit_top.specs.declared.token.Token.{Token}
 use Rattle.turkit_top.specs.declared.token.Token.TheVariants.{Mark, Word, Var as VarToken, Print as PrintToken}
 use Rattle.turkit_top.specs.declared.tree.Term.{Term}
@@ -30,12 +30,15 @@ reads_var : (names : List (List ℕ)) (ts : List Token) (x : List ℕ) → Headi
 reads_var names ts x h (Var y s) r q =
     let heads : VarToken ∷ Word x ∷ Mark Equals ∷ drop 3 ts ≡ VarToken ∷ Word y ∷ Mark Equals ∷ ((sum_tokens s ++ Mark Semicolon ∷ []) ++ r) = sym h.is ∙ q.is in
     let same : y ≡ x = cc in
-    let rest : drop 3 ts ≡ (sum_tokens s ++ Mark Semicolon ∷ []) ++ r = cc in
-    (s, ap (λ v. Var v s) same, record {
-      is = rest ∙ append_assoc (sum_tokens s) (Mark Semicolon ∷ []) r;
-      known = and_right (not (is_reserved y)) (is_sum names s) q.known;
-      ends = λ b. cc;
-    })
+    let rest : drop 3 ts ≡ (sum_tokens s ++ Mark Semicolon ∷ []) ++ r = cc in (
+      s,
+      ap (λ v. Var v s) same,
+      record {
+        is = rest ∙ append_assoc (sum_tokens s) (Mark Semicolon ∷ []) r;
+        known = and_right (not (is_reserved y)) (is_sum names s) q.known;
+        ends = λ b. cc;
+      },
+    )
 reads_var names ts x h (Print ss) r q = absurd (let heads : VarToken ∷ Word x ∷ Mark Equals ∷ drop 3 ts ≡ spelled (Print ss) ++ r = sym h.is ∙ q.is in cc)
 
 pub declaration_one : (names : List (List ℕ)) (ts : List Token) (x : List ℕ) (s : List Term) (n : ℕ) → Heading ts x
@@ -83,21 +86,23 @@ declaration_no_end names ts x s n h k wrong = λ y v r q.
     let k1 : OnlySum names (drop 3 ts) s n = subst (λ l. OnlySum names l s n) (take_rest ts 3) k in
     let b = k1.only a.0 (Mark Semicolon ∷ r) a.2 in
     wrong (subst (λ l. Begins Semicolon l) (sym (take_rest ts (3 + n)))
-        (begins_with (drop (3 + n) ts) (Mark Semicolon) r (sym (b.1 ∙ drop-drop n 3 ts))))
+    (begins_with (drop (3 + n) ts) (Mark Semicolon) r (sym (b.1 ∙ drop-drop n 3 ts))))
 
 -- ---- `print ( s , s .. ) ;`
 
 reads_print : (names : List (List ℕ)) (ts : List Token) (ss : List (List Term)) (r : List Token) → ReadsStatement names ts (Print ss) r
     → (drop 1 ts ≡ Mark Open ∷ drop 2 ts) × ReadsSums names (drop 2 ts) ss (Mark Close ∷ Mark Semicolon ∷ r)
 reads_print names ts ss r q =
-    let rest : drop 2 ts ≡ (sums_tokens ss ++ Mark Close ∷ Mark Semicolon ∷ []) ++ r = ap (drop 2) q.is in
-    (ap (drop 1) q.is ∙ ap (λ l. Mark Open ∷ l) (sym rest), record {
-      is = rest ∙ append_assoc (sums_tokens ss) (Mark Close ∷ Mark Semicolon ∷ []) r;
-      some = some_test (length ss) (and_left (nat_lt 0 (length ss)) (list_all (is_sum names) ss) q.known);
-      known = and_right (nat_lt 0 (length ss)) (list_all (is_sum names) ss) q.known;
-      ends = λ b. cc;
-      ends_sum = λ b. cc;
-    })
+    let rest : drop 2 ts ≡ (sums_tokens ss ++ Mark Close ∷ Mark Semicolon ∷ []) ++ r = ap (drop 2) q.is in (
+      ap (drop 1) q.is ∙ ap (λ l. Mark Open ∷ l) (sym rest),
+      record {
+        is = rest ∙ append_assoc (sums_tokens ss) (Mark Close ∷ Mark Semicolon ∷ []) r;
+        some = some_test (length ss) (and_left (nat_lt 0 (length ss)) (list_all (is_sum names) ss) q.known);
+        known = and_right (nat_lt 0 (length ss)) (list_all (is_sum names) ss) q.known;
+        ends = λ b. cc;
+        ends_sum = λ b. cc;
+      },
+    )
 
 pub print_one : (names : List (List ℕ)) (ts : List Token) (ss : List (List Term)) (n : ℕ) → BeginsPrint ts
     → Begins Open (take (length ts - 1) (drop 1 ts)) → OnlySums names (take (length ts - 2) (drop 2 ts)) ss n
@@ -110,7 +115,7 @@ print_one names ts ss n begin opens k end =
     let fits : 3 + n + 1 ≤ length ts = goes_on ts (3 + n) (Mark Semicolon) (drop 2 (drop (2 + n) ts)) next in
     let place : drop 2 (drop (2 + n) ts) ≡ drop (4 + n) ts = drop-drop 2 (2 + n) ts ∙ ap (λ (i : ℕ). drop i ts) (omega arith) in
     let tail : drop n (drop 2 ts) ≡ Mark Close ∷ Mark Semicolon ∷ drop (4 + n) ts =
-        drop-drop n 2 ts ∙ end1 ∙ ap (λ l. Mark Close ∷ Mark Semicolon ∷ l) place in
+    drop-drop n 2 ts ∙ end1 ∙ ap (λ l. Mark Close ∷ Mark Semicolon ∷ l) place in
     record {
       some = omega arith;
       within = omega (arith, fits);

@@ -1,5 +1,5 @@
 -- How the reader's steps through a sum follow the spelling.
-use Rattle.std.proofs.Common.{◌≡◌, ◌≢◌, ℕ, ◌+◌, ◌<◌, ◌≤◌, Bool, true, false, ◌&&◌, nat_lt, nat_le, List, [], ◌∷◌, ◌++◌, length, take, drop, refl, sym, ap, ◌∙◌, subst, arith, append_assoc, append-nil}
+use Rattle.std.proofs.Common.{◌≡◌, ℕ, ◌+◌, ◌<◌, ◌≤◌, Bool, true, false, ◌&&◌, nat_lt, nat_le, List, [], ◌∷◌, ◌++◌, length, take, drop, refl, sym, ap, ◌∙◌, subst, arith, append_assoc, append-nil}
 use Rattle.std.proofs.Common.{suc, ◌-◌}
 use Rattle.std.proofs.lemmas.List.{length-append, length-drop, drop-drop, take_rest}
 use Rattle.std.proofs.lemmas.Bool.Decides.{nat_tests}
@@ -10,7 +10,7 @@ use Rattle.turkit_top.specs.Reading.{Unless, Begins, TakesTerm, NoTerm, ReadsSum
 use Rattle.turkit_top.specs.Statements.{term_token, more_terms, sum_tokens, is_term, is_sum}
 use Rattle.turkit_top.specs.declared.token.Mark.TheVariants.{Plus}
 use Rattle.turkit_top.specs.declared.token.Token.{Token}
-use Rattle.turkit_top.specs.declared.token.Token.TheVariants.{Word, Number as NumberToken, Mark}
+use Rattle.turkit_top.specs.declared.token.Token.TheVariants.{Mark}
 use Rattle.turkit_top.specs.declared.tree.Term.{Term}
 use Rattle.turkit_top.specs.declared.tree.Term.TheVariants.{Name, Number}
 
@@ -84,7 +84,7 @@ sum_more names ts rest s t plus k f = record {
   some = simp length-append (omega (arith, f.some));
   are = λ ys r e a.
       let whole : rest ≡ Mark Plus ∷ (term_token t ∷ (more_terms ys ++ r)) =
-          plus ∙ ap (λ l. Mark Plus ∷ l) (k.is ∙ ap (λ l. term_token t ∷ l) e) in
+      plus ∙ ap (λ l. Mark Plus ∷ l) (k.is ∙ ap (λ l. term_token t ∷ l) e) in
       let b = f.are (t ∷ ys) r whole (and_both (is_term names t) (list_all (is_term names) ys) k.known a) in
       subst (λ l. (ts ≡ sum_tokens l ++ r) × (list_all (is_term names) l ≡ true)) (sym (append_assoc s (t ∷ []) ys)) b;
   only = λ z r q. next z r q (f.only z r q);
@@ -111,13 +111,14 @@ sum_end names ts rest s n stop short within is f = record {
     here =
         let b = f.are [] rest refl refl in
         let c : (ts ≡ sum_tokens s ++ rest) × (list_all (is_term names) s ≡ true) =
-            subst (λ l. (ts ≡ sum_tokens l ++ rest) × (list_all (is_term names) l ≡ true)) (append-nil s) b in
+        subst (λ l. (ts ≡ sum_tokens l ++ rest) × (list_all (is_term names) l ≡ true)) (append-nil s) b in
         record {
           is = c.0;
           known = and_both (nat_lt 0 (length s) && nat_le (length s) 100) (list_all (is_term names) s)
               (and_both (nat_lt 0 (length s)) (nat_le (length s) 100) (less_test 0 (length s) f.some) (most_test (length s) 100 short)) c.1;
           ends = stop;
         }
+
     one : (z : List Term) (r : List Token) → ReadsSum names ts z r → (z ≡ s) × (r ≡ rest)
     one z r q =
         let a = f.only z r q in
@@ -128,7 +129,7 @@ pub sum_too_long : (names : List (List ℕ)) (ts rest : List Token) (s : List Te
 sum_too_long names ts rest s long f = λ z r q.
     let a = f.only z r q in
     let short : length z ≤ 100 = most_fact (length z) 100 (and_right (nat_lt 0 (length z)) (nat_le (length z) 100)
-        (and_left (nat_lt 0 (length z) && nat_le (length z) 100) (list_all (is_term names) z) q.known)) in
+    (and_left (nat_lt 0 (length z) && nat_le (length z) 100) (list_all (is_term names) z) q.known)) in
     omega (arith, simp length-append at (ap length a.1))
 
 pub sum_no_next : (names : List (List ℕ)) (ts rest : List Token) (s : List Term)
@@ -179,7 +180,7 @@ sum_more_at names ts s z t i plus k is f =
     let k1 : TakesTerm names (drop (i + 1) ts) t = subst (λ l. TakesTerm names l t) (take_rest ts (i + 1)) k in
     let k2 : TakesTerm names (drop 1 (drop i ts)) t = subst (λ l. TakesTerm names l t) (sym (drop-drop 1 i ts)) k1 in
     let g : SumSoFar names ts (s ++ t ∷ []) (drop 1 (drop 1 (drop i ts))) =
-        sum_more names ts (drop i ts) s t (subst (λ l. Begins Plus l) (take_rest ts i) plus) k2 f in
+    sum_more names ts (drop i ts) s t (subst (λ l. Begins Plus l) (take_rest ts i) plus) k2 f in
     let fits : i + 1 + 1 ≤ length ts = goes_on ts (i + 1) (term_token t) (drop 1 (drop (i + 1) ts)) k1.is in
     (omega (arith, fits), subst (λ l. SumSoFar names ts l (drop (i + 2) ts)) (sym is) (subst (λ l. SumSoFar names ts (s ++ t ∷ []) l) (two_on ts i) g))
 
@@ -193,4 +194,4 @@ pub sum_no_next_at : (names : List (List ℕ)) (ts : List Token) (s : List Term)
     → (e : Stop) → Unless e (NoTerm names (take (length ts - (i + 1)) (drop (i + 1) ts))) → Unless e (NoSum names ts)
 sum_no_next_at names ts s i plus f e u =
     unless e (λ none. sum_no_next names ts (drop i ts) s (subst (λ l. Begins Plus l) (take_rest ts i) plus)
-        (subst (λ l. NoTerm names l) (take_rest ts (i + 1) ∙ sym (drop-drop 1 i ts)) none) f) u
+    (subst (λ l. NoTerm names l) (take_rest ts (i + 1) ∙ sym (drop-drop 1 i ts)) none) f) u

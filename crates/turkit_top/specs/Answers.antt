@@ -1,7 +1,7 @@
 -- What a command is to answer, and what it wrote (own rule).
 use Rattle.std.specs.Prelude.{◌≡◌, ℕ, ◌≤◌, ◌<◌, List, [], ◌∷◌, Bool, true, false, ◌&&◌, ◌==◌, not, codes, length, take, Option, IfSome, nat_eq, if◌then◌else◌}
 use Rattle.std.specs.Cmp.Lexicographic.{pointwise}
-use Rattle.std.specs.Io.KnownBytes.{Appends, Consumes, IsAtEnd, Keeps}
+use Rattle.std.specs.Io.KnownBytes.{Appends, Consumes, IsAtEnd}
 use Rattle.outside.specs.Faults.{Rose}
 use Rattle.turkit_top.specs.Meaning.{writes}
 use Rattle.turkit_top.specs.Scripts.{NoScript, OnlyScript}
@@ -78,4 +78,4 @@ pub data IsGiven (a : Answer) (out notes : Writing) : Status → Type 0 where
   given : Appends out.old out.new a.output → Appends notes.old notes.new (note_of a.status) → IsGiven a out notes a.status
   out_failed : {n : ℕ} → Rose out.before out.now → n ≤ length a.output → Appends out.old out.new (take n a.output) → notes.new ≡ notes.old → IsGiven a out notes WriteFault
   notes_failed : {n : ℕ} → Rose notes.before notes.now → Appends out.old out.new a.output → n ≤ length (note_of a.status)
-    → Appends notes.old notes.new (take n (note_of a.status)) → IsGiven a out notes WriteFault
+      → Appends notes.old notes.new (take n (note_of a.status)) → IsGiven a out notes WriteFault

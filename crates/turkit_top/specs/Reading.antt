@@ -1,5 +1,5 @@
 -- What the parts of the reader give (own rule): each is the only thing that the definitions allow.
-use Rattle.std.specs.Prelude.{◌≡◌, ℕ, ◌≤◌, ◌<◌, List, [], ◌∷◌, ◌++◌, Bool, true, false, ⊤, length, drop, ◌&&◌, nat_lt}
+use Rattle.std.specs.Prelude.{◌≡◌, ℕ, ◌≤◌, ◌<◌, List, [], ◌∷◌, ◌++◌, true, false, ⊤, length, drop}
 use Rattle.std.specs.List.{list_all}
 use Rattle.turkit_top.specs.Classes.{head_class}
 use Rattle.turkit_top.specs.Statements.{term_token, sum_tokens, sums_tokens, spelled, all_spelled, is_term, is_sum, is_statement, are_statements}

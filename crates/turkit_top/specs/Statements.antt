@@ -1,5 +1,5 @@
 -- How statements are spelled, and which lists of them are a script (own rule, after ECMA-262 3rd ed. 11.6.1, 12.2, 12.4).
-use Rattle.std.specs.Prelude.{◌≡◌, ℕ, ◌≤◌, ◌<◌, List, [], ◌∷◌, ◌++◌, Bool, true, false, ◌&&◌, nat_le, nat_lt, length, not}
+use Rattle.std.specs.Prelude.{◌≡◌, ℕ, ◌≤◌, List, [], ◌∷◌, ◌++◌, Bool, true, ◌&&◌, nat_le, nat_lt, length, not}
 use Rattle.std.specs.List.{list_all}
 use Rattle.turkit_top.specs.Names.{is_reserved, declares}
 use Rattle.turkit_top.specs.Tokens.{Tokens}

@@ -23,6 +23,6 @@ pub data Tokens : List ℕ → List Token → Type 0 where
   gap : {xs : List ℕ} {ts : List Token} → head_class xs ≡ Space → Tokens (drop 1 xs) ts → Tokens xs ts
   mark : {xs : List ℕ} {ts : List Token} {m : TheMark} → head_class xs ≡ Mark m → Tokens (drop 1 xs) ts → Tokens xs (MarkToken m ∷ ts)
   word : {xs : List ℕ} {ts : List Token} → head_class xs ≡ Letter → Tokens (drop (run_len is_letter xs) xs) ts
-    → Tokens xs (word_token (take (run_len is_letter xs) xs) ∷ ts)
+      → Tokens xs (word_token (take (run_len is_letter xs) xs) ∷ ts)
   number : {xs : List ℕ} {ts : List Token} {n : ℕ} → head_class xs ≡ Digit → IsLiteral (take (run_len is_digit xs) xs) n
-    → Tokens (drop (run_len is_digit xs) xs) ts → Tokens xs (Number n ∷ ts)
+      → Tokens (drop (run_len is_digit xs) xs) ts → Tokens xs (Number n ∷ ts)

@@ -14,3 +14,5 @@ mod word;
 pub use status::Status;
 pub use top::turkit;
 
+#[cfg(test)]
+mod tests;

@@ -93,7 +93,11 @@ fn heading(tokens: &[Token]) -> Option<&Bytes>
     }
 }
 
-fn read_declaration(alloc: Global, names: &[Bytes], tokens: &[Token]) -> Result<(Statement, usize), Stop>
+fn read_declaration(
+    alloc: Global,
+    names: &[Bytes],
+    tokens: &[Token],
+) -> Result<(Statement, usize), Stop>
     ensures { MatchResult result (λ r. OnlyStatement names.now tokens.now r.0 r.1) (λ e. Unless e (NoDeclaration names.now tokens.now)) }
 {
     let Some(name) = heading(tokens) else {
@@ -136,7 +140,11 @@ fn begins_print(tokens: &[Token]) -> bool
     }
 }
 
-fn read_statement(alloc: Global, names: &[Bytes], tokens: &[Token]) -> Result<(Statement, usize), Stop>
+fn read_statement(
+    alloc: Global,
+    names: &[Bytes],
+    tokens: &[Token],
+) -> Result<(Statement, usize), Stop>
     ensures { MatchResult result (λ r. OnlyStatement names.now tokens.now r.0 r.1) (λ e. Unless e (NoStatement names.now tokens.now)) }
 {
     if begins_print(tokens) {

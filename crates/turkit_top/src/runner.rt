@@ -27,9 +27,14 @@ pub struct Ran {
 fn looked_up(bindings: &[Binding], name: &Bytes) -> u64
     ensures { result ≡ value_of bindings.now name.now }
 {
-    bindings
-        .iter()
-        .fold(0, |value, binding| if binding.name == *name { binding.value } else { value })
+    bindings.iter().fold(
+        0,
+        |value, binding| if binding.name == *name {
+            binding.value
+        } else {
+            value
+        },
+    )
 }
 
 fn valued(bindings: &[Binding], term: &Term) -> u64
@@ -70,7 +75,11 @@ fn keep(values: &mut Vec<u64>, value: u64) -> Result<(), NoMemory>
     }
 }
 
-fn all_summed(alloc: Global, bindings: &[Binding], sums: &[Sum]) -> Result<Option<Vec<u64>>, NoMemory>
+fn all_summed(
+    alloc: Global,
+    bindings: &[Binding],
+    sums: &[Sum],
+) -> Result<Option<Vec<u64>>, NoMemory>
     ensures { IfOk result (λ o. MatchOption o (list_all (fits bindings.now) sums.now ≡ false)
         (λ v. (v.items ≡ map (sum_value bindings.now) sums.now) × (list_all (fits bindings.now) sums.now ≡ true))) }
 {
@@ -133,7 +142,12 @@ fn give(bindings: &mut Vec<Binding>, name: Bytes, value: u64) -> Result<(), NoMe
 }
 
 /// Gives a name a value. False: the sum is out of range.
-fn bind(alloc: Global, bindings: &mut Vec<Binding>, name: &Bytes, sum: &Sum) -> Result<bool, NoMemory>
+fn bind(
+    alloc: Global,
+    bindings: &mut Vec<Binding>,
+    name: &Bytes,
+    sum: &Sum,
+) -> Result<bool, NoMemory>
     ensures { IfOk result (λ went. (went ≡ fits bindings.old.items sum.now) × (bindings.new.items ≡ (if went then bound bindings.old.items name.now sum.now else bindings.old.items))) }
 {
     let Some(value) = summed(bindings.as_slice(), sum.as_slice()) else {
@@ -145,7 +159,12 @@ fn bind(alloc: Global, bindings: &mut Vec<Binding>, name: &Bytes, sum: &Sum) -> 
 }
 
 /// Adds a line of sums. False: one of them is out of range, and nothing was added.
-fn print(alloc: Global, bindings: &[Binding], output: &mut Bytes, sums: &[Sum]) -> Result<bool, NoMemory>
+fn print(
+    alloc: Global,
+    bindings: &[Binding],
+    output: &mut Bytes,
+    sums: &[Sum],
+) -> Result<bool, NoMemory>
     ensures { IfOk result (λ went. (went ≡ list_all (fits bindings.now) sums.now) × (output.new ≡ (if went then output.old ++ line bindings.now sums.now else output.old))) }
 {
     let Some(values) = all_summed(alloc, bindings, sums)? else {
@@ -157,7 +176,12 @@ fn print(alloc: Global, bindings: &[Binding], output: &mut Bytes, sums: &[Sum]) 
 
 /// Runs one statement. False: the script stops here.
 #[tactic(auto, using(crate::proofs::RunLemmas::var_step, crate::proofs::RunLemmas::print_step))]
-fn step(alloc: Global, bindings: &mut Vec<Binding>, output: &mut Bytes, statement: &Statement) -> Result<bool, NoMemory>
+fn step(
+    alloc: Global,
+    bindings: &mut Vec<Binding>,
+    output: &mut Bytes,
+    statement: &Statement,
+) -> Result<bool, NoMemory>
     ensures { IfOk result (λ went. (rest : List Statement) → after output.old (writes bindings.old.items (statement.now ∷ rest))
         ≡ (if went then after output.new (writes bindings.new.items rest) else record { output = output.new; finished = false })) }
 {
@@ -175,8 +199,14 @@ pub fn run(alloc: Global, statements: &[Statement]) -> Result<Ran, NoMemory>
     let mut output = Bytes::new(alloc);
     for statement in statements {
         if !step(alloc, &mut bindings, &mut output, statement)? {
-            return Ok(Ran { output, finished: false });
+            return Ok(Ran {
+                output,
+                finished: false,
+            });
         }
     }
-    Ok(Ran { output, finished: true })
+    Ok(Ran {
+        output,
+        finished: true,
+    })
 }

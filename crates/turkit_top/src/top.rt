@@ -69,8 +69,15 @@ fn script_of(alloc: Global, bytes: &[u8]) -> Result<Vec<Statement>, Stop>
 fn ended(ran: Ran) -> Answer
     ensures { result ≡ ending ran }
 {
-    let status = if ran.finished { Status::Finished } else { Status::Ended };
-    Answer { status, output: ran.output }
+    let status = if ran.finished {
+        Status::Finished
+    } else {
+        Status::Ended
+    };
+    Answer {
+        status,
+        output: ran.output,
+    }
 }
 
 /// What a script's bytes come to.
@@ -137,7 +144,11 @@ fn carry_out<S: Source>(alloc: Global, words: &[&str], script: &mut S) -> Answer
     ensures count { S.faults script.old ≤ S.faults script.new }
     ensures answer { IsAnswer (map (λ w. w.now) words.now) (S.faults script.old) (S.faults script.new) (S.left script.old) (S.left script.new) result }
 {
-    if plain(words) { due(alloc, script) } else { without_output(alloc, Status::NotBuilt) }
+    if plain(words) {
+        due(alloc, script)
+    } else {
+        without_output(alloc, Status::NotBuilt)
+    }
 }
 
 /// Runs a command: the words after the program's name, the script, and where the output and the
@@ -151,8 +162,8 @@ pub fn turkit<S: Source, O: Sink>(
 ) -> Status
     ensures answer { (a : Answer) × IsAnswer (map (λ w. w.now) words.now) (S.faults script.old) (S.faults script.new) (S.left script.old) (S.left script.new) a
         × IsGiven a
-            (record { before = O.faults out.old; now = O.faults out.new; old = O.written out.old; new = O.written out.new })
-            (record { before = O.faults notes.old; now = O.faults notes.new; old = O.written notes.old; new = O.written notes.new }) result }
+        (record { before = O.faults out.old; now = O.faults out.new; old = O.written out.old; new = O.written out.new })
+        (record { before = O.faults notes.old; now = O.faults notes.new; old = O.written notes.old; new = O.written notes.new }) result }
     ensures script_count { S.faults script.old ≤ S.faults script.new }
     ensures out_count { O.faults out.old ≤ O.faults out.new }
     ensures notes_count { O.faults notes.old ≤ O.faults notes.new }

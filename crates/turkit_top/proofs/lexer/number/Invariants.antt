@@ -1,4 +1,4 @@
-use Rattle.std.proofs.Common.{◌≡◌, ◌^◌, ◌≤◌, fold, drop, ◌+◌, ◌*◌, ◌-◌}
+use Rattle.std.proofs.Common.{◌≡◌, ◌^◌, ◌≤◌, drop}
 use Rattle.turkit_top.specs.Literals.{number_of, number_from}
 use Rattle.turkit_top.proofs.lexer.number.Given as goal
 

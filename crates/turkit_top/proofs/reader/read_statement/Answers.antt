@@ -1,6 +1,6 @@
 use Rattle.std.proofs.Common.{refl}
 use Rattle.std.proofs.lemmas.Result.{MatchResult-weaker}
-use Rattle.turkit_top.proofs.StatementLemmas.{no_statement_print, no_statement_var}
+use Rattle.turkit_top.proofs.StatementLemmas.{no_statement_print}
 use Rattle.turkit_top.proofs.reader.read_statement.Goals as goal
 
 pub returns-then-begins_print : goal.returns-then-begins_print

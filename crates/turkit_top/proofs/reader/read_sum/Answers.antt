@@ -1,4 +1,4 @@
-use Rattle.std.proofs.Common.{rules, refl, subst, ◌≤◌, ◌≡◌, ◌++◌, ◌∷◌, [], length}
+use Rattle.std.proofs.Common.{rules, refl, subst, ◌≤◌, length}
 use Rattle.turkit_top.proofs.SumLemmas.{not_true, sum_more_at, sum_end_at, sum_no_next_at}
 use Rattle.turkit_top.proofs.reader.read_sum.Goals as goal
 
@@ -10,8 +10,8 @@ returns-in_err-next c =
 pub terms-preserved : goal.terms-preserved
 terms-preserved c =
     let k = sum_more_at c.args.names.now c.args.tokens.now c.terms.sum c.push-in-terms.new.self c.in_ok-next.next c.terms.at
-        (c.terms-test.ensures.0 refl) c.in_ok-next.ensures c.in_ok-push-2.ensures c.terms.invariant.read in
-    record { within = k.0; read = k.1; }
+    (c.terms-test.ensures.0 refl) c.in_ok-next.ensures c.in_ok-push-2.ensures c.terms.invariant.read in
+    record { within = k.0; read = k.1 }
 
 pub returns : goal.returns
 returns c =

@@ -22,8 +22,8 @@ returns-in_err-next c =
 pub sums-preserved : goal.sums-preserved
 sums-preserved c =
     let k = sums_more_at c.args.names.now c.args.tokens.now c.sums.sums c.push-in-sums.new.self c.in_ok-next.next c.sums.at c.in_ok-next.n
-        (c.sums-test.ensures.0 refl) c.in_ok-next.ensures c.in_ok-push-2.ensures c.sums.invariant.read in
-    record { within = k.0; read = k.1; }
+    (c.sums-test.ensures.0 refl) c.in_ok-next.ensures c.in_ok-push-2.ensures c.sums.invariant.read in
+    record { within = k.0; read = k.1 }
 
 pub returns : goal.returns
 returns c =

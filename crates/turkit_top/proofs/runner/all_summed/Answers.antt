@@ -1,4 +1,4 @@
-use Rattle.std.proofs.Common.{◌≡◌, ◌∙◌, true, ap, refl, sym, map, drop, get_or}
+use Rattle.std.proofs.Common.{◌∙◌, ap, refl, sym, map}
 use Rattle.std.specs.List.{list_all}
 use Rattle.turkit_top.proofs.RunLemmas.{next_map, next_all}
 use Rattle.turkit_top.specs.Meaning.{sum_value, fits}
@@ -17,4 +17,4 @@ loop-sum-preserved c =
     }
 
 pub loop-sum-init : goal.loop-sum-init
-loop-sum-init c = record { values = rw c.new-values.ensures.items refl; tests = refl; }
+loop-sum-init c = record { values = rw c.new-values.ensures.items refl; tests = refl }

@@ -1,5 +1,4 @@
-use Rattle.std.proofs.Common.{arith, ◌≡◌, ◌+◌, ◌<◌, ◌^◌, drop, sum_by, get_or}
-use Rattle.std.proofs.lemmas.List.Sums.{sum_by-cons}
+use Rattle.std.proofs.Common.{arith, ◌<◌, ◌^◌}
 use Rattle.turkit_top.proofs.RunLemmas.{too_much, next_sum}
 use Rattle.turkit_top.specs.Meaning.{term_value, sum_value}
 use Rattle.turkit_top.proofs.runner.summed.Goals as goal
@@ -16,5 +15,5 @@ pub returns-in_err-sum : goal.returns-in_err-sum
 returns-in_err-sum c =
     let step = next_sum (term_value c.args.bindings.now) c.args.terms.now c.loop-term.term-index c.term-item.result c.loop-term-test.true c.term-item.is in
     let most : 2 ^ 53 < sum_value c.args.bindings.now c.args.terms.now =
-        omega (arith, step, c.in_err-sum.ensures, c.valued.ensures, c.loop-term.invariant.whole) in
+    omega (arith, step, c.in_err-sum.ensures, c.valued.ensures, c.loop-term.invariant.whole) in
     rw c.from_residual.ensures (too_much (sum_value c.args.bindings.now c.args.terms.now) most)
