@@ -40,5 +40,11 @@ fn run(rt: &HostRuntime) -> Status {
     };
     let mut out = StdSink::out(rt.stdout());
     let mut notes = StdSink::notes(rt.stderr());
-    turkit(rt.alloc(), words.as_slice(), &mut script, &mut out, &mut notes)
+    turkit(
+        rt.alloc(),
+        words.as_slice(),
+        &mut script,
+        &mut out,
+        &mut notes,
+    )
 }
