@@ -1,11 +1,11 @@
 -- One program over one trace and the same replies, with any draws and with those that a list tells of: the two runs are
 -- one, or they part at a draw that the list doesn't tell, and made the same records before it.
 use Rattle.std.specs.Prelude.{ℤ, List, Bool, true, false, Option, Some, None, nat_lt}
-use Rattle.std.proofs.Common.{◌≡◌, ◌≤◌, ℕ, suc, zero, refl, ap, arith, ◌⊎◌, inl, inr, [], ◌∷◌, ◌++◌, sym, ◌∙◌, subst}
+use Rattle.std.proofs.Common.{◌≡◌, ℕ, suc, zero, refl, ap, arith, ◌⊎◌, inl, inr, [], ◌∷◌, ◌++◌, sym, ◌∙◌, subst}
 use Rattle.turk_base.specs.declared.Record.{Record}
 use Rattle.turk_base.specs.declared.Record.TheVariants as kept
 use Rattle.turk_base.specs.Asks.{Question, posts, replies, draws, AnsOf, Rec, rec, path_of, find, below, answer}
-use Rattle.turk_base.specs.Names.{Path, root, sub, Units, Under, self, In, first, later, integer_eq}
+use Rattle.turk_base.specs.Names.{Path, root, sub, Units, Under, self, In, first, integer_eq}
 use Rattle.turk_base.specs.Prog.{Prog, Done, Ask, Then, Always, Once, Fork, Loop}
 use Rattle.turk_base.specs.Start.{start}
 use Rattle.turk_base.specs.State.{St, AnswerTo, op_cost, Act, gives, refused, waiting, stuck, act, any_gone, once_call, next_call, enter, leave, absent, give_value, cut_all, threw}
@@ -13,7 +13,7 @@ use Rattle.turk_base.specs.Steps.{Small, give, refuse, lost, step, ask, taking, 
 use Rattle.turk_base.specs.Values.{Val, Undefined, Outcome, Normal, Break, Continue, Return, Throw}
 use Rattle.js_tree.specs.Eval.{fuel, eval, close, closed, grew}
 use Rattle.js_tree.specs.Run.{undrawn, datum, value_in, data_in, valued, End, ret, thr, bar, Out, ended, waits, halted, Why, Res, add, pay_if, on_act, on_kept, on_ask, run_steps, branch_end, body_end, after_body, on_once, once_goes, after_branch, on_fork, fork_goes, forked, on_normal, turns, run}
-use Rattle.js_tree.specs.World.{World, Divergence, kept_answer, Fresh, fresh, fresh_reply, fresh_draw, draw_of, drawn_of, Rest, drew}
+use Rattle.js_tree.specs.World.{World, Divergence, kept_answer, fresh, fresh_reply, fresh_draw, draw_of, drawn_of, Rest, drew}
 use Rattle.run_laws.proofs.Fronts.{assoc, nothing_more, same_head, not_nil, meet, Meets, front, front_trans, front_add, find_over, find_new, find_made, drawn_same}
 use Rattle.run_laws.proofs.Lock.{some_is}
 use Rattle.run_laws.proofs.Paths.{up}
