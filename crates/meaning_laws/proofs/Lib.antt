@@ -3,3 +3,6 @@ pub mod Calm
 pub mod Apart
 pub mod Parts
 pub mod Whole
+pub mod Tied
+pub mod Counted
+pub mod Stopped
