@@ -105,10 +105,10 @@ branch_front true waits r p σ k = front ((k (ret (valued Undefined)) (absent p 
 branch_front false (halted y) r p σ k = front [] (nothing_more r.made)
 branch_front true (halted y) r p σ k = front [] (nothing_more r.made)
 
-body_halted : (o : Out) (r : Res) (p : Path) (σ : St) (k : End → St → Rest → Res) (w : Why) → o ≡ halted w → after_body o r p σ k ≡ r
+pub body_halted : (o : Out) (r : Res) (p : Path) (σ : St) (k : End → St → Rest → Res) (w : Why) → o ≡ halted w → after_body o r p σ k ≡ r
 body_halted o r p σ k w e = rw e refl
 
-branch_halted : (g : Bool) (o : Out) (r : Res) (p : Path) (σ : St) (k : End → St → Rest → Res) (w : Why) → o ≡ halted w → after_branch g o r p σ k ≡ r
+pub branch_halted : (g : Bool) (o : Out) (r : Res) (p : Path) (σ : St) (k : End → St → Rest → Res) (w : Why) → o ≡ halted w → after_branch g o r p σ k ≡ r
 branch_halted true o r p σ k w e = rw e refl
 branch_halted false o r p σ k w e = rw e refl
 
@@ -341,7 +341,7 @@ born_draw E l p k x _ (done d) z = absurd (other z)
     other : kept.Once d ≡ kept.Draw k x → ⊥
     other e = cc
 
-closed_undrawn : (g : Bool) (o : Out) → o ≡ halted undrawn → closed g o ≡ halted undrawn
+pub closed_undrawn : (g : Bool) (o : Out) → o ≡ halted undrawn → closed g o ≡ halted undrawn
 closed_undrawn true o e = rw e refl
 closed_undrawn false o e = rw e refl
 

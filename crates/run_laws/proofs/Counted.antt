@@ -4,21 +4,17 @@ use Rattle.std.proofs.Common.{◌≡◌, ◌≤◌, ℕ, suc, zero, refl, arith,
 use Rattle.turk_base.specs.declared.Record.{Record}
 use Rattle.turk_base.specs.declared.Record.TheVariants as kept
 use Rattle.turk_base.specs.Asks.{Question, posts, replies, draws, AnsOf, Rec, rec, path_of, find, below}
-use Rattle.turk_base.specs.Names.{Path, root, sub, Under, self, In}
+use Rattle.turk_base.specs.Names.{Path, sub, Under, self, In}
 use Rattle.turk_base.specs.Prog.{Prog, Done, Ask, Then, Always, Once, Fork, Loop}
-use Rattle.turk_base.specs.Start.{start}
 use Rattle.turk_base.specs.State.{St, AnswerTo, op_cost, Act, gives, refused, waiting, stuck, act, once_call, next_call, enter, leave, absent, give_value, cut_all, threw}
 use Rattle.turk_base.specs.Steps.{Small, give, refuse, lost, step, ask, taking, put_data, steps_of}
 use Rattle.turk_base.specs.Values.{Val, Undefined, Outcome, Normal, Break, Continue, Return, Throw}
-use Rattle.js_tree.specs.Eval.{fuel}
 use Rattle.js_tree.specs.Run.{datum, value_in, data_in, End, ret, thr, bar, Out, ended, waits, halted, Res, res, add, pay_if, on_act, on_kept, on_ask, run_steps, branch_end, body_end, after_body, on_once, once_goes, after_branch, on_fork, fork_goes, forked, on_normal, turns, run}
 use Rattle.js_tree.specs.World.{World, Divergence, kept_answer, Fresh, fresh, Rest, drew}
-use Rattle.run_laws.proofs.Order.{closed_ended}
 use Rattle.run_laws.proofs.Paths.{up}
 use Rattle.run_laws.proofs.Props.{in_split, in_one}
 use Rattle.run_laws.proofs.Within.{ActKept, act_kept, run_within, branch_end_within, body_end_within}
 use Rattle.run_laws.specs.Claim.{completed}
-use Rattle.meaning_laws.specs.Laws.{CallsPassed}
 use native.Mathlib.Nat.{le_refl, le_trans}
 
 -- What a run in the scope s from the call c on has counted, where it ended with a value or a throw.
@@ -42,7 +38,7 @@ no_end (bar y) c u = c
 undone : {s : Path} {c : ℕ} {r : Res} → Undone r.out → Counted s c r
 undone u = record { rises = λ e k z. absurd (no_end e k (subst Undone z u)); passed = λ e k z. absurd (no_end e k (subst Undone z u)) }
 
-here : {s : Path} (o : Out) (σ : St) (w : Rest) → Counted s σ.calls (res o σ w)
+pub here : {s : Path} (o : Out) (σ : St) (w : Rest) → Counted s σ.calls (res o σ w)
 here o σ w = record { rises = λ e k z. le_refl σ.calls; passed = λ e k z q m. elim m [ ] }
 
 counted_from : {s : Path} {c d : ℕ} {r : Res} → c ≤ d → Counted s d r → Counted s c r
@@ -101,14 +97,14 @@ steps_counted (ask q go) E T s b body k h σ w = inner (find (sub σ.calls s) T)
     inner None false (Some f) ih = counted_add (rec (sub σ.calls s) f.what ∷ []) (λ q m. rw (in_one m) self) (ih f.answer (drew q w))
     inner None false None ih = none q
 
-branch_end_counted : (s : Path) → CountedK s branch_end
+pub branch_end_counted : (s : Path) → CountedK s branch_end
 branch_end_counted s (Normal v) τ w = here _ τ w
 branch_end_counted s Break τ w = here _ τ w
 branch_end_counted s Continue τ w = here _ τ w
 branch_end_counted s (Return v) τ w = here _ τ w
 branch_end_counted s (Throw v) τ w = here _ τ w
 
-body_end_counted : (E : World) (T : List Rec) (s b : Path) → CountedK s (body_end E T s b)
+pub body_end_counted : (E : World) (T : List Rec) (s b : Path) → CountedK s (body_end E T s b)
 body_end_counted E T s b (Normal v) τ w = steps_counted (taking v) E T s b true _ (λ d τ w. here _ τ w) τ w
 body_end_counted E T s b Break τ w = steps_counted (taking Undefined) E T s b true _ (λ d τ w. here _ τ w) τ w
 body_end_counted E T s b Continue τ w = steps_counted (taking Undefined) E T s b true _ (λ d τ w. here _ τ w) τ w
@@ -190,13 +186,3 @@ run_counted (Fork g) E T N s b false k h σ w = inner (find (sub σ.calls s) T) 
     inner None ih = branch_counted s σ.calls (next_call σ) refl (run g E T N (sub σ.calls s) (sub σ.calls s) false branch_end (enter (next_call σ)) (forked w))
         (λ q m. up ((run_within g E T N (sub σ.calls s) (sub σ.calls s) false _ (branch_end_within E (sub σ.calls s)) (enter (next_call σ)) (forked w)).made m).0.2) _ ih _ _ refl
 run_counted (Loop g) E T N s b body k h σ w = turns_counted s _ (λ k hk τ w'. run_counted g E T N s b body k hk τ w') N k h σ w
-
-pub calls_passed : CallsPassed
-calls_passed = record {
-  script = λ S E T n e k z q m. let o = (closed_ended _ _ e z).1 in
-      let p = (run_counted S E T (suc n) root root false branch_end (branch_end_counted root) start (fuel n)).passed e k o q m in (p.0, p.2, p.3);
-  body = λ g E T N s b σ w e k z q m.
-      let p = (run_counted g E T N (sub σ.calls s) b true _ (body_end_counted E T (sub σ.calls s) b) (enter (once_call b (next_call σ))) w).passed e k z q m in (p.0, p.2, p.3);
-  branch = λ g E T N s σ w e k z q m.
-      let p = (run_counted g E T N (sub σ.calls s) (sub σ.calls s) false branch_end (branch_end_counted (sub σ.calls s)) (enter (next_call σ)) (forked w)).passed e k z q m in (p.0, p.2, p.3);
-}
