@@ -4,5 +4,4 @@ pub mod Apart
 pub mod Parts
 pub mod Whole
 pub mod Tied
-pub mod Counted
 pub mod Stopped

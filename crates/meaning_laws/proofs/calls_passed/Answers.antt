@@ -1,5 +1,5 @@
 -- The law is proved over the definitions alone.
-use Rattle.meaning_laws.proofs.Counted.{calls_passed}
+use Rattle.meaning_laws.proofs.Stopped.{calls_passed}
 use Rattle.meaning_laws.proofs.calls_passed.Goals as goal
 
 pub returns : goal.returns
