@@ -3,3 +3,5 @@ pub mod Calm
 pub mod Apart
 pub mod Parts
 pub mod Whole
+pub mod Tied
+pub mod Stopped

@@ -1,16 +1,18 @@
 -- Laws that show that the definitions say what they should.
-use Rattle.std.specs.Prelude.{ℕ, ◌≤◌, List, Bool, true, false, None, ◌≡◌}
-use Rattle.std.proofs.Common.{[], ◌∷◌, ◌++◌}
+use Rattle.std.specs.Prelude.{ℕ, ℤ, ◌≤◌, List, Bool, true, false, None, ◌≡◌}
+use Rattle.std.proofs.Common.{suc, [], ◌∷◌, ◌++◌}
 use Rattle.turk_base.specs.declared.Record.TheVariants as kept
-use Rattle.turk_base.specs.Names.{In, Path, sub, path_in, indexes}
+use Rattle.turk_base.specs.Names.{In, Path, root, sub, Under, path_in, indexes}
 use Rattle.turk_base.specs.Values.{Val, Undefined, Outcome, Normal}
 use Rattle.turk_base.specs.State.{St, independent, once_call, next_call, enter, absent}
 use Rattle.turk_base.specs.Asks.{Rec, rec, path_of, find}
 use Rattle.turk_base.specs.Prog.{Prim, Prog, Then, Always, Once, Fork}
 use Rattle.turk_base.specs.Steps.{steps_of}
 use Rattle.js_tree.specs.World.{World, Rest}
-use Rattle.js_tree.specs.Run.{Gift, spent, halted, res, run_steps, datum, data_in, ret, ended, waits, Res, add, run, branch_end, body_end, once_goes, forked, on_normal}
+use Rattle.js_tree.specs.Run.{Gift, End, spent, undrawn, halted, res, run_steps, datum, data_in, ret, ended, waits, Res, add, run, branch_end, body_end, once_goes, forked, on_normal}
 use Rattle.js_tree.specs.Eval.{eval}
+use Rattle.run_laws.specs.Claim.{completed}
+use Rattle.run_laws.specs.Stops.{Front, by_draws}
 
 -- ---- A tree learns of the state by answers alone
 
@@ -114,3 +116,29 @@ abbrev pub ForkTakesBack : Type 0
 ForkTakesBack = (g : Prog) (E : World) (T : List Rec) (N : ℕ) (s b : Path) (k : After) (σ : St) (w : Rest) →
     find (sub σ.calls s) T ≡ None → (branch_run g E T N s σ w).out ≡ waits →
     run (Fork g) E T N s b false k σ w ≡ add (branch_run g E T N s σ w).made (k (Normal Undefined) (absent (sub σ.calls s) (next_call σ)) (branch_run g E T N s σ w).rest)
+
+-- ---- what stays, and what is counted
+
+-- What a scope made stays made, however it ends and whatever is taken back.
+abbrev pub RecordsStay : Type 0
+RecordsStay = (g : Prog) (E : World) (T : List Rec) (N : ℕ) (s b : Path) (body : Bool) (k : After) (σ : St) (w : Rest) → find (sub σ.calls s) T ≡ None →
+    Front (body_run g E T N s b σ w).made (run (Once g) E T N s b body k σ w).made ×
+    Front (branch_run g E T N s σ w).made (run (Fork g) E T N s b false k σ w).made
+
+-- each of these records stands at or below a call of the scope s of which its count at the end is past
+abbrev pub Passed : Path → ℕ → List Rec → Type 0
+Passed s count made = (q : Rec) → In Rec q made → (i : ℕ) × (suc i ≤ count) × Under (sub i s) (path_of q)
+
+-- Where a scope, the script's or one that a call opened, ended with a value or a throw.
+pub record CallsPassed : Type 0 where
+  pub script : (S : Prog) (E : World) (T : List Rec) (n : ℕ) (e : End) → completed e → (eval S E T n).out ≡ ended e → Passed root (eval S E T n).st.calls (eval S E T n).made
+  pub body : (g : Prog) (E : World) (T : List Rec) (N : ℕ) (s b : Path) (σ : St) (w : Rest) (e : End) → completed e → (body_run g E T N s b σ w).out ≡ ended e →
+      Passed (sub σ.calls s) (body_run g E T N s b σ w).st.calls (body_run g E T N s b σ w).made
+  pub branch : (g : Prog) (E : World) (T : List Rec) (N : ℕ) (s : Path) (σ : St) (w : Rest) (e : End) → completed e → (branch_run g E T N s σ w).out ≡ ended e →
+      Passed (sub σ.calls s) (branch_run g E T N s σ w).st.calls (branch_run g E T N s σ w).made
+
+-- Where the next record after a stop is a draw: over the same trace, with the draws of the trace that is left, the run is
+-- undrawn there, having made the records before it.
+abbrev pub StopsUndrawn : Type 0
+StopsUndrawn = (S : Prog) (E : World) (T : List Rec) (n : ℕ) (P1 : List Rec) (p : Path) (m k : ℤ) → Front (P1 ++ (rec p (kept.Draw m k) ∷ [])) (eval S E T n).made →
+    ((eval S (by_draws E (T ++ P1)) T n).out ≡ halted undrawn) × ((eval S (by_draws E (T ++ P1)) T n).made ≡ P1)

@@ -5,4 +5,5 @@ pub mod Operations
 pub mod Says
 pub mod Scopes
 pub mod Statements
+pub mod Tied
 pub mod Words

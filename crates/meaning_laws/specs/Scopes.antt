@@ -1,17 +1,20 @@
 -- Worked examples: once, fork, join, asks, records and the verdict. Where a script has runs one after the other, each run's
 -- trace is that of the run before with what that run made.
-use Rattle.std.specs.Prelude.{◌+◌, List, [], ◌∷◌, ◌++◌, pos, codes}
+use Rattle.std.specs.Prelude.{◌+◌, List, [], ◌∷◌, ◌++◌, ◌≡◌, pos, codes}
 use Rattle.js_tree.specs.declared.Script.{Script}
 use Rattle.turk_base.specs.declared.Record.TheVariants as kept
 use Rattle.turk_base.specs.Names.{Units, root, cell, Slot, slot, shape, at, path_in}
-use Rattle.turk_base.specs.Values.{task, crashed}
+use Rattle.turk_base.specs.Values.{Undefined, task, crashed}
 use Rattle.turk_base.specs.Data.{DNumber, DText, DList, DFields, NoItems, Item, NoFields, Field}
 use Rattle.turk_base.specs.State.{independent, touched_open, once_while_open, branch_threw}
 use Rattle.turk_base.specs.Asks.{Rec}
 use Rattle.js_tree.specs.World.{called_post, called_fork, found_kept, found_below, diverges}
+use Rattle.js_tree.specs.Eval.{eval, meaning, world, Budget}
+use Rattle.js_tree.specs.Run.{ret, valued}
 use Rattle.js_tree.specs.Report.{Finished, Waiting, Undrawn, Diverged}
 use Rattle.meaning_laws.specs.Words.{array, assign, block, call, crash, does, dot, eq, field, fork, function, here, if_else, item, join, new, null, num, object, once, only, outer, plus, post, print, prompt, random, returns, script, set, standard, text, throw, try_catch, vars}
-use Rattle.meaning_laws.specs.Says.{at_path, runs, runs_by, Comes}
+use Rattle.run_laws.specs.Claim.{EndsWell}
+use Rattle.meaning_laws.specs.Says.{at_path, lines, runs, runs_by, Comes}
 
 -- a variable of the script, as a slot
 abbrev pub variable : Units → Slot
@@ -142,6 +145,14 @@ FirstAnswered = Comes (runs asking_two (first_answer ∷ []) posts_made 2000) Wa
 
 abbrev pub ThenSecond : Type 0
 ThenSecond = Comes (runs asking_two (first_answer ∷ second_answer ∷ []) (posts_made ++ first_made) 2000) Finished ("xy" ∷ []) independent [] second_made
+
+-- The history in which the second branch is answered first meets the premises of the order law, and the plain run with both replies does as its last run did.
+abbrev pub order_trace : List Rec
+order_trace = posts_made ++ second_made ++ first_made
+
+abbrev pub OrderMet : Type 0
+OrderMet = EndsWell (codes "s") (meaning asking_two) 2000 (posts_made ++ second_made) (second_answer ∷ first_answer ∷ []) order_trace (ret (valued Undefined))
+    × ((eval (meaning asking_two) (world (codes "s") (second_answer ∷ first_answer ∷ []) order_trace) [] (Budget order_trace 2000)).st.text ≡ lines ("xy" ∷ []))
 
 -- ---- the verdict
 

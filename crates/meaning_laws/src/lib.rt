@@ -5,8 +5,9 @@
 ghost use Rattle.meaning_laws.specs.Operations.{OneAndTwo, Increments, LargestSum, TooLargeSum, ExactQuotient, NoQuotient, BitsAndRemainder, FuelEnough, FuelShort, Texts, Equality, Updates, PrintedObject, SumRefusedFirst, LineOrder, CompoundOrder, TypeofUndeclared, Errors, AssignmentValue};
 ghost use Rattle.meaning_laws.specs.Objects.{ArrayPrototype, Closure, KeysAndTexts, PrototypeChain, ArrayLength, ConcatHoles, OwnName, ThisAndNew, Hoisting, KeyThenBase, CalleeOrder, MessageUnpaid, PlainThis, MethodsFound, DeletedKeys, TooLongIndex};
 ghost use Rattle.meaning_laws.specs.Statements.{FinallyReturns, Undeclared, FallThrough, BranchThrows, Loops, CatchFrame, OnceKeeps, WaitPasses, Replied, Crashes, Endless, DepthLimit, OnceNoData, NoForkInOnce, BranchesWait, JoinedValues, HundredTurns, ForInTarget};
-ghost use Rattle.meaning_laws.specs.Scopes.{OnceTakenBack, OnceAnswered, OnceKept, OnceThrows, OnceData, BranchWaits, BranchCrashes, ThrowWhileAbsent, ScriptThrowsWhileAbsent, BothWait, SecondAnswered, ThenFirst, FirstAnswered, ThenSecond, SeenOutside, SeenAfterJoin, SeenInBranch, ShapeTouched, OnceWhileOpen, BranchThrew, OtherKind, OtherText, RecordsBelow, RecordAtFork, ChoiceWaits, ChoiceDiverges, DrawsByWords, NotDrawn};
-ghost use Rattle.meaning_laws.specs.Laws.{AlwaysGoes, AnswersAlone, ForkTakesBack, FuelFalls, MadeIsNew, NoForkIndependent, OnceTakesBack, PathsBothWays, SequenceGoes};
+ghost use Rattle.meaning_laws.specs.Scopes.{OnceTakenBack, OnceAnswered, OnceKept, OnceThrows, OnceData, BranchWaits, BranchCrashes, ThrowWhileAbsent, ScriptThrowsWhileAbsent, BothWait, SecondAnswered, ThenFirst, FirstAnswered, ThenSecond, OrderMet, SeenOutside, SeenAfterJoin, SeenInBranch, ShapeTouched, OnceWhileOpen, BranchThrew, OtherKind, OtherText, RecordsBelow, RecordAtFork, ChoiceWaits, ChoiceDiverges, DrawsByWords, NotDrawn};
+ghost use Rattle.meaning_laws.specs.Laws.{AlwaysGoes, AnswersAlone, CallsPassed, ForkTakesBack, FuelFalls, MadeIsNew, NoForkIndependent, OnceTakesBack, PathsBothWays, RecordsStay, SequenceGoes, StopsUndrawn};
+ghost use Rattle.meaning_laws.specs.Tied.{AnswerTied, BelowTied, FindTied, TokenTied};
 
 /// `print(1 + 2);`
 pub fn one_and_two()
@@ -393,4 +394,45 @@ pub fn takes_back()
 /// A path as a list of indexes, and back.
 pub fn paths_both_ways()
     ensures { PathsBothWays }
+{}
+
+/// The record at a path, in a trace as the code's values show it and in the records of the meaning.
+pub fn find_tied()
+    ensures { FindTied }
+{}
+
+/// The first reply with a token, as the code's values show it and in the meaning.
+pub fn answer_tied()
+    ensures { AnswerTied }
+{}
+
+/// The token of a path, as the code's values show it and in the meaning.
+pub fn token_tied()
+    ensures { TokenTied }
+{}
+
+/// Records below a path, in a trace as the code's values show it and in the records of the meaning.
+pub fn below_tied()
+    ensures { BelowTied }
+{}
+
+/// The history of the two branches, its second reply first, meets the premises of the order law: its last run ends and is
+/// independent. The plain run with both replies writes the same.
+pub fn order_met()
+    ensures { OrderMet }
+{}
+
+/// Where a scope ends with a value or a throw, each record made in it stands at or below a call that its count passed.
+pub fn calls_passed()
+    ensures { CallsPassed }
+{}
+
+/// What a scope made stays made, whatever is taken back.
+pub fn records_stay()
+    ensures { RecordsStay }
+{}
+
+/// Where a stopped run would have drawn next, the run with the draws of the trace that is left is undrawn there.
+pub fn stops_undrawn()
+    ensures { StopsUndrawn }
 {}

@@ -1,6 +1,6 @@
 -- Fronts of lists of records, and the record that is found at a path.
 use Rattle.std.specs.Prelude.{ℤ, List, Option, Some, None}
-use Rattle.std.proofs.Common.{◌≡◌, ℕ, refl, ap, ◌⊎◌, inl, inr, [], ◌∷◌, ◌++◌, sym, ◌∙◌, subst}
+use Rattle.std.proofs.Common.{◌≡◌, refl, ap, ◌⊎◌, inl, inr, [], ◌∷◌, ◌++◌, sym, ◌∙◌}
 use Rattle.turk_base.specs.declared.Record.{Record}
 use Rattle.turk_base.specs.declared.Record.TheVariants as kept
 use Rattle.turk_base.specs.Asks.{Rec, rec, path_of, find}

@@ -21,3 +21,6 @@ pub mod Budget
 pub mod Fronts
 pub mod Parting
 pub mod Mirror
+pub mod Cuts
+pub mod Counted
+pub mod Looks

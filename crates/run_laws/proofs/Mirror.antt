@@ -3,16 +3,15 @@
 -- second makes it first.
 use Rattle.std.specs.Prelude.{ℤ, List, Bool, true, false, Option, Some, None, nat_lt, if◌then◌else◌}
 use Rattle.std.proofs.Common.{◌≡◌, ◌≤◌, ℕ, suc, zero, refl, ap, arith, ◌⊎◌, inl, inr, [], ◌∷◌, ◌++◌, sym, ◌∙◌, subst, true≢false}
-use Rattle.turk_base.specs.declared.Record.{Record}
 use Rattle.turk_base.specs.declared.Record.TheVariants as kept
 use Rattle.turk_base.specs.Asks.{Question, posts, replies, draws, AnsOf, Rec, rec, path_of, find, below, strictly, answer, token}
-use Rattle.turk_base.specs.Names.{Path, root, sub, Units, Under, self, under, path_eq, In, first, later, pick, units_eq, integer_eq}
+use Rattle.turk_base.specs.Names.{Path, root, sub, Units, Under, self, under, path_eq, In, first, later, units_eq, integer_eq}
 use Rattle.turk_base.specs.Prog.{Prog, Done, Ask, Then, Always, Once, Fork, Loop}
 use Rattle.turk_base.specs.Start.{start}
 use Rattle.turk_base.specs.State.{St, AnswerTo, op_cost, Act, gives, refused, waiting, stuck, act, any_gone, once_call, next_call, enter, leave, absent, give_value, cut_all, threw}
 use Rattle.turk_base.specs.Steps.{Small, give, refuse, lost, step, ask, taking, put_data, steps_of}
-use Rattle.turk_base.specs.Values.{Val, Undefined, Outcome, Normal, Break, Continue, Return, Throw, ForkInOnce}
-use Rattle.js_tree.specs.Eval.{fuel, eval, world, close, closed}
+use Rattle.turk_base.specs.Values.{Val, Undefined, Outcome, Normal, Break, Continue, Return, Throw}
+use Rattle.js_tree.specs.Eval.{fuel, eval, world, closed}
 use Rattle.js_tree.specs.Run.{Gift, undrawn, datum, value_in, data_in, valued, End, ret, thr, bar, Out, ended, waits, halted, Why, Res, res, add, pay_if, on_act, on_kept, on_ask, run_steps, branch_end, body_end, after_body, on_once, once_goes, after_branch, on_fork, fork_goes, forked, on_normal, turns, run}
 use Rattle.js_tree.specs.World.{World, called_by, found_kept, Divergence, diverges, kept_answer, Fresh, fresh, fresh_reply, fresh_draw, draw_of, Rest, drew}
 use Rattle.run_laws.proofs.Falls.{FallsK, branch_end_left, body_end_left, normal_left, turns_left, run_left}

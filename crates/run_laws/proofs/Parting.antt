@@ -1,26 +1,26 @@
 -- One program over one trace and the same replies, with any draws and with those that a list tells of: the two runs are
 -- one, or they part at a draw that the list doesn't tell, and made the same records before it.
 use Rattle.std.specs.Prelude.{ℤ, List, Bool, true, false, Option, Some, None, nat_lt}
-use Rattle.std.proofs.Common.{◌≡◌, ◌≤◌, ℕ, suc, zero, refl, ap, arith, ◌⊎◌, inl, inr, [], ◌∷◌, ◌++◌, sym, ◌∙◌, subst}
+use Rattle.std.proofs.Common.{◌≡◌, ℕ, suc, zero, refl, ap, arith, ◌⊎◌, inl, inr, [], ◌∷◌, ◌++◌, sym, ◌∙◌, subst}
 use Rattle.turk_base.specs.declared.Record.{Record}
 use Rattle.turk_base.specs.declared.Record.TheVariants as kept
 use Rattle.turk_base.specs.Asks.{Question, posts, replies, draws, AnsOf, Rec, rec, path_of, find, below, answer}
-use Rattle.turk_base.specs.Names.{Path, root, sub, Units, Under, self, In, first, later, integer_eq}
+use Rattle.turk_base.specs.Names.{Path, root, sub, Units, Under, self, In, first, integer_eq}
 use Rattle.turk_base.specs.Prog.{Prog, Done, Ask, Then, Always, Once, Fork, Loop}
 use Rattle.turk_base.specs.Start.{start}
 use Rattle.turk_base.specs.State.{St, AnswerTo, op_cost, Act, gives, refused, waiting, stuck, act, any_gone, once_call, next_call, enter, leave, absent, give_value, cut_all, threw}
 use Rattle.turk_base.specs.Steps.{Small, give, refuse, lost, step, ask, taking, put_data, steps_of}
 use Rattle.turk_base.specs.Values.{Val, Undefined, Outcome, Normal, Break, Continue, Return, Throw}
-use Rattle.js_tree.specs.Eval.{fuel, eval, close}
+use Rattle.js_tree.specs.Eval.{fuel, eval, close, closed, grew}
 use Rattle.js_tree.specs.Run.{undrawn, datum, value_in, data_in, valued, End, ret, thr, bar, Out, ended, waits, halted, Why, Res, add, pay_if, on_act, on_kept, on_ask, run_steps, branch_end, body_end, after_body, on_once, once_goes, after_branch, on_fork, fork_goes, forked, on_normal, turns, run}
-use Rattle.js_tree.specs.World.{World, Divergence, kept_answer, Fresh, fresh, fresh_reply, fresh_draw, draw_of, drawn_of, Rest, drew}
+use Rattle.js_tree.specs.World.{World, Divergence, kept_answer, fresh, fresh_reply, fresh_draw, draw_of, drawn_of, Rest, drew}
 use Rattle.run_laws.proofs.Fronts.{assoc, nothing_more, same_head, not_nil, meet, Meets, front, front_trans, front_add, find_over, find_new, find_made, drawn_same}
 use Rattle.run_laws.proofs.Lock.{some_is}
 use Rattle.run_laws.proofs.Paths.{up}
-use Rattle.run_laws.proofs.Props.{none_some, in_split, in_one}
+use Rattle.run_laws.proofs.Props.{none_some, in_left, in_right, in_split, in_one}
 use Rattle.run_laws.proofs.Sound.{clash}
-use Rattle.run_laws.proofs.Within.{After, ActKept, act_kept, run_within, branch_end_within, body_end_within}
-use Rattle.run_laws.specs.Stops.{Front, by_draws, RecordedDraws, StopsBegin, StopsNext, no_draw}
+use Rattle.run_laws.proofs.Within.{After, Born, asked, done, ActKept, act_kept, run_within, branch_end_within, body_end_within}
+use Rattle.run_laws.specs.Stops.{Front, by_draws, RecordedDraws, StopsBegin, StopsNext, StopsGrow, no_draw}
 use native.Mathlib.Nat.{le_refl}
 
 -- How the first run goes on where they part: by a draw that the list doesn't tell, or undrawn where the list tells one.
@@ -37,6 +37,7 @@ pub record Parted (l T : List Rec) (s : Path) (c : ℕ) (e e' : Res) : Type 0 wh
   pub new : (r : Rec) → In Rec r before → path_of r ≡ path → ⊥
   pub goes : PartsBy l before path bound e
   pub second : Front before e'.made
+  pub stays : drawn_of bound (find path l) ≡ None → (e'.out ≡ halted undrawn) × (e'.made ≡ before)
 
 pub data Twin (l T : List Rec) (s : Path) (c : ℕ) (e e' : Res) : Type 0 where
   alike : e ≡ e' → Twin l T s c e e'
@@ -54,6 +55,7 @@ parted_add {l} {T} {s} {c} {e} {e'} m u a = record {
   new = λ r i z. elim (in_split m _ i) [ inl x ↦ clash (u r x) (rw z a.after) | inr y ↦ a.new r y z ];
   goes = by a.goes;
   second = front_add m a.second;
+  stays = λ z. let b = a.stays z in (b.0, ap (λ l. m ++ l) b.1);
 }
   where
     by : PartsBy l a.before a.path a.bound e → PartsBy l (m ++ a.before) a.path a.bound (add m e)
@@ -66,11 +68,11 @@ twin_add m u (apart a) = apart (parted_add m u a)
 
 twin_skip : {l T : List Rec} {s : Path} {c : ℕ} {e e' : Res} → Twin l T s (suc c) e e' → Twin l T s c e e'
 twin_skip (alike z) = alike z
-twin_skip (apart a) = apart (record { before = a.before; path = a.path; bound = a.bound; after = (a.after.0, omega (arith, a.after.1), a.after.2); none = a.none; new = a.new; goes = a.goes; second = a.second })
+twin_skip (apart a) = apart (record { before = a.before; path = a.path; bound = a.bound; after = (a.after.0, omega (arith, a.after.1), a.after.2); none = a.none; new = a.new; goes = a.goes; second = a.second; stays = a.stays })
 
 -- A scope at the call c parted, so the whole did.
-parted_up : {l T : List Rec} {s : Path} {c : ℕ} {r r' e e' : Res} → Parted l T (sub c s) 0 r r' → Front r.made e.made → ((w : Why) → r.out ≡ halted w → e ≡ r) → Front r'.made e'.made → Twin l T s c e e'
-parted_up {l} {T} {s} {c} {r} {r'} {e} {e'} a f h f' = apart (record {
+parted_up : {l T : List Rec} {s : Path} {c : ℕ} {r r' e e' : Res} → Parted l T (sub c s) 0 r r' → Front r.made e.made → ((w : Why) → r.out ≡ halted w → e ≡ r) → Front r'.made e'.made → ((w : Why) → r'.out ≡ halted w → e' ≡ r') → Twin l T s c e e'
+parted_up {l} {T} {s} {c} {r} {r'} {e} {e'} a f h f' h' = apart (record {
   before = a.before;
   path = a.path;
   bound = a.bound;
@@ -79,6 +81,7 @@ parted_up {l} {T} {s} {c} {r} {r'} {e} {e'} a f h f' = apart (record {
   new = a.new;
   goes = by a.goes;
   second = front_trans a.second f';
+  stays = λ z. let b = a.stays z in (ap (λ e. e.out) (h' undrawn b.0) ∙ b.0, ap (λ e. e.made) (h' undrawn b.0) ∙ b.1);
 })
   where
     by : PartsBy l a.before a.path a.bound r → PartsBy l a.before a.path a.bound e
@@ -102,10 +105,10 @@ branch_front true waits r p σ k = front ((k (ret (valued Undefined)) (absent p 
 branch_front false (halted y) r p σ k = front [] (nothing_more r.made)
 branch_front true (halted y) r p σ k = front [] (nothing_more r.made)
 
-body_halted : (o : Out) (r : Res) (p : Path) (σ : St) (k : End → St → Rest → Res) (w : Why) → o ≡ halted w → after_body o r p σ k ≡ r
+pub body_halted : (o : Out) (r : Res) (p : Path) (σ : St) (k : End → St → Rest → Res) (w : Why) → o ≡ halted w → after_body o r p σ k ≡ r
 body_halted o r p σ k w e = rw e refl
 
-branch_halted : (g : Bool) (o : Out) (r : Res) (p : Path) (σ : St) (k : End → St → Rest → Res) (w : Why) → o ≡ halted w → after_branch g o r p σ k ≡ r
+pub branch_halted : (g : Bool) (o : Out) (r : Res) (p : Path) (σ : St) (k : End → St → Rest → Res) (w : Why) → o ≡ halted w → after_branch g o r p σ k ≡ r
 branch_halted true o r p σ k w e = rw e refl
 branch_halted false o r p σ k w e = rw e refl
 
@@ -141,12 +144,12 @@ module _ (l T : List Rec) (s : Path) (c : ℕ) (σ₁ : St) (n : σ₁.calls ≡
   body_twin : (r r' : Res) → ((q : Rec) → In Rec q r.made → Under (sub c s) (path_of q)) → Twin l T (sub c s) 0 r r' →
       Twin l T s c (after_body r.out r (sub c s) σ₁ k) (after_body r'.out r' (sub c s) σ₁ k')
   body_twin r r' u (alike z) = subst (λ y. Twin l T s c (after_body r.out r (sub c s) σ₁ k) (after_body y.out y (sub c s) σ₁ k')) z (body_same r u r.out)
-  body_twin r r' u (apart a) = parted_up a (body_front r.out r (sub c s) σ₁ k) (λ w e. body_halted r.out r (sub c s) σ₁ k w e) (body_front r'.out r' (sub c s) σ₁ k')
+  body_twin r r' u (apart a) = parted_up a (body_front r.out r (sub c s) σ₁ k) (λ w e. body_halted r.out r (sub c s) σ₁ k w e) (body_front r'.out r' (sub c s) σ₁ k') (λ w e. body_halted r'.out r' (sub c s) σ₁ k' w e)
 
   branch_twin : (r r' : Res) → ((q : Rec) → In Rec q r.made → Under (sub c s) (path_of q)) → Twin l T (sub c s) 0 r r' →
       Twin l T s c (after_branch (any_gone (sub c s) r.st.gone) r.out r (sub c s) σ₁ k) (after_branch (any_gone (sub c s) r'.st.gone) r'.out r' (sub c s) σ₁ k')
   branch_twin r r' u (alike z) = subst (λ y. Twin l T s c (after_branch (any_gone (sub c s) r.st.gone) r.out r (sub c s) σ₁ k) (after_branch (any_gone (sub c s) y.st.gone) y.out y (sub c s) σ₁ k')) z (branch_same r u (any_gone (sub c s) r.st.gone) r.out)
-  branch_twin r r' u (apart a) = parted_up a (branch_front (any_gone (sub c s) r.st.gone) r.out r (sub c s) σ₁ k) (λ w e. branch_halted (any_gone (sub c s) r.st.gone) r.out r (sub c s) σ₁ k w e) (branch_front (any_gone (sub c s) r'.st.gone) r'.out r' (sub c s) σ₁ k')
+  branch_twin r r' u (apart a) = parted_up a (branch_front (any_gone (sub c s) r.st.gone) r.out r (sub c s) σ₁ k) (λ w e. branch_halted (any_gone (sub c s) r.st.gone) r.out r (sub c s) σ₁ k w e) (branch_front (any_gone (sub c s) r'.st.gone) r'.out r' (sub c s) σ₁ k') (λ w e. branch_halted (any_gone (sub c s) r'.st.gone) r'.out r' (sub c s) σ₁ k' w e)
 
 -- ---- steps and programs
 
@@ -169,8 +172,8 @@ module _ (E : World) (l T : List Rec) where
       inner None = alike refl
   ask_twin (draws m) s c σ w k k' h None e false = inner (draw_of E.dice w.drawn (sub c s) m) (drawn_of m (find (sub c s) l)) refl
     where
-      part : (y : Res) (goes : PartsBy l [] (sub c s) m y) (y' : Res) → Twin l T s c y y'
-      part y goes y' = apart (record { before = []; path = sub c s; bound = m; after = (c, le_refl c, self); none = e; new = λ r i z. elim i [ ]; goes = goes; second = front y'.made refl })
+      part : (y : Res) (goes : PartsBy l [] (sub c s) m y) (y' : Res) → (drawn_of m (find (sub c s) l) ≡ None → (y'.out ≡ halted undrawn) × (y'.made ≡ [])) → Twin l T s c y y'
+      part y goes y' stays = apart (record { before = []; path = sub c s; bound = m; after = (c, le_refl c, self); none = e; new = λ r i z. elim i [ ]; goes = goes; second = front y'.made refl; stays = stays })
 
       inner : (o o' : Option ℤ) → drawn_of m (find (sub c s) l) ≡ o' →
           Twin l T s c (on_ask (draws m) None false (fresh_draw m o) E (sub c s) σ w k) (on_ask (draws m) None false (fresh_draw m o') (by_draws E l) (sub c s) σ w k')
@@ -179,9 +182,9 @@ module _ (E : World) (l T : List Rec) where
           which : Dec (x ≡ y) → Twin l T s c (on_ask (draws m) None false (fresh_draw m (Some x)) E (sub c s) σ w k) (on_ask (draws m) None false (fresh_draw m (Some y)) (by_draws E l) (sub c s) σ w k')
           which (yes i) = subst (λ y. Twin l T s c (on_ask (draws m) None false (fresh_draw m (Some x)) E (sub c s) σ w k) (on_ask (draws m) None false (fresh_draw m (Some y)) (by_draws E l) (sub c s) σ w k')) i
               (twin_add (rec (sub c s) (kept.Draw m x) ∷ []) (λ q i. rw (in_one i) self) (h x (drew (draws m) w)))
-          which (no i) = part _ (inl (x, front (k x (drew (draws m) w)).made refl, λ j. i (some_is (sym j ∙ z)))) _
-      inner (Some x) None z = part _ (inl (x, front (k x (drew (draws m) w)).made refl, λ j. none_some (sym z ∙ j))) _
-      inner None (Some y) z = part _ (inr (refl, refl, λ j. none_some (sym j ∙ z))) _
+          which (no i) = part _ (inl (x, front (k x (drew (draws m) w)).made refl, λ j. i (some_is (sym j ∙ z)))) _ (λ j. absurd (none_some (sym j ∙ z)))
+      inner (Some x) None z = part _ (inl (x, front (k x (drew (draws m) w)).made refl, λ j. none_some (sym z ∙ j))) _ (λ j. (refl, refl))
+      inner None (Some y) z = part _ (inr (refl, refl, λ j. none_some (sym j ∙ z))) _ (λ j. absurd (none_some (sym j ∙ z)))
       inner None None z = alike refl
 
   steps_twin : {A : Type 0} (g : Small A) (s b : Path) (body : Bool) (k k' : A → St → Rest → Res) → TwinK l T s k k' →
@@ -297,24 +300,69 @@ recorded_draws S E T n = inner (top_twin S E T n (T ++ (eval S E T n).made))
 
 -- ---- stops
 
+abbrev bound_or : ℤ → Rec → ℤ
+bound_or d (rec p (kept.Post t)) = d
+bound_or d (rec p (kept.Reply t x)) = d
+bound_or d (rec p (kept.Draw m k)) = m
+bound_or d (rec p (kept.Once y)) = d
+
+abbrev value_or : ℤ → Record → ℤ
+value_or d (kept.Post t) = d
+value_or d (kept.Reply t x) = d
+value_or d (kept.Draw m k) = k
+value_or d (kept.Once y) = d
+
+-- a draw that a run made with the draws of a list is told by the list
+born_draw : (E : World) (l : List Rec) (p : Path) (k x : ℤ) (y : Record) → Born (by_draws E l) p y → y ≡ kept.Draw k x → drawn_of k (find p l) ≡ Some x
+unfolding fresh
+born_draw E l p k x _ (asked (posts t) j f e) z = absurd (no z)
+  where
+    no : f.what ≡ kept.Draw k x → ⊥
+    no z = other (ap (λ f. f.what) (some_is e) ∙ z)
+      where
+        other : kept.Post t ≡ kept.Draw k x → ⊥
+        other e = cc
+born_draw E l p k x _ (asked (replies t) j f e) z = inner (answer E.pairs t) e
+  where
+    inner : (o : Option Units) → fresh_reply t o ≡ Some f → drawn_of k (find p l) ≡ Some x
+    inner None e = absurd (none_some e)
+    inner (Some y) e = absurd (other (ap (λ f. f.what) (some_is e) ∙ z))
+      where
+        other : kept.Reply t y ≡ kept.Draw k x → ⊥
+        other e = cc
+born_draw E l p k x _ (asked (draws m) j f e) z = inner (drawn_of m (find p l)) refl e
+  where
+    inner : (o : Option ℤ) → drawn_of m (find p l) ≡ o → fresh_draw m o ≡ Some f → drawn_of k (find p l) ≡ Some x
+    inner None h e = absurd (none_some e)
+    inner (Some y) h e = let q = ap (λ f. f.what) (some_is e) ∙ z in
+        subst (λ m. drawn_of m (find p l) ≡ Some x) (ap (λ r. bound_or m (rec p r)) q) (h ∙ ap (λ r. Some (value_or y r)) q)
+born_draw E l p k x _ (done d) z = absurd (other z)
+  where
+    other : kept.Once d ≡ kept.Draw k x → ⊥
+    other e = cc
+
+pub closed_undrawn : (g : Bool) (o : Out) → o ≡ halted undrawn → closed g o ≡ halted undrawn
+closed_undrawn true o e = rw e refl
+closed_undrawn false o e = rw e refl
+
 -- The list is the trace and a front of what the first run made, so they part at no record of that front.
 module _ (S : Prog) (E : World) (T : List Rec) (n : ℕ) (P1 y : List Rec) (is : (eval S E T n).made ≡ P1 ++ y) where
-  -- where they parted the front had ended, or nothing was left to make
-  abbrev Past : List Rec → List Rec → Type 0
-  Past m y = (c : List Rec) × (m ≡ P1 ++ c) × ((y ≡ c) ⊎ ((p : Path) × (k : ℤ) × (x : ℤ) × (z : List Rec) × (y ≡ c ++ (rec p (kept.Draw k x) ∷ z))))
+  -- where they parted the front had ended, and the first run had made all of the rest, or made a draw next
+  abbrev Past : List Rec → Path → ℤ → List Rec → Type 0
+  Past m p k y = (c : List Rec) × (m ≡ P1 ++ c) × ((y ≡ c) ⊎ ((x : ℤ) × (z : List Rec) × (y ≡ c ++ (rec p (kept.Draw k x) ∷ z))))
 
-  past : (a : Parted (T ++ P1) T root 0 (run S E T (suc n) root root false branch_end start (fuel n)) (run S (by_draws E (T ++ P1)) T (suc n) root root false branch_end start (fuel n))) → Past a.before y
+  past : (a : Parted (T ++ P1) T root 0 (run S E T (suc n) root root false branch_end start (fuel n)) (run S (by_draws E (T ++ P1)) T (suc n) root root false branch_end start (fuel n))) → Past a.before a.path a.bound y
   past a = by a.goes
     where
-      drew_it : (x : ℤ) → (drawn_of a.bound (find a.path (T ++ P1)) ≡ Some x → ⊥) → (z : List Rec) → Meets P1 a.before y (rec a.path (kept.Draw a.bound x) ∷ z) → Past a.before y
-      drew_it x d z (inl (c, h, k)) = (c, h, inr (a.path, a.bound, x, z, k))
+      drew_it : (x : ℤ) → (drawn_of a.bound (find a.path (T ++ P1)) ≡ Some x → ⊥) → (z : List Rec) → Meets P1 a.before y (rec a.path (kept.Draw a.bound x) ∷ z) → Past a.before a.path a.bound y
+      drew_it x d z (inl (c, h, k)) = (c, h, inr (x, z, k))
       drew_it x d z (inr (q, c, h, k)) = absurd (d (ap (λ m. drawn_of a.bound (find a.path (T ++ m))) (h ∙ ap (λ q. a.before ++ (q ∷ c)) (sym (same_head k))) ∙ told T a.before c a.path a.bound x a.none a.new))
 
-      none : Meets P1 a.before y [] → Past a.before y
+      none : Meets P1 a.before y [] → Past a.before a.path a.bound y
       none (inl (c, h, k)) = (c, h, inl (k ∙ sym (nothing_more c)))
       none (inr (q, c, h, k)) = absurd (not_nil k)
 
-      by : PartsBy (T ++ P1) a.before a.path a.bound (run S E T (suc n) root root false branch_end start (fuel n)) → Past a.before y
+      by : PartsBy (T ++ P1) a.before a.path a.bound (run S E T (suc n) root root false branch_end start (fuel n)) → Past a.before a.path a.bound y
       by (inl (x, f, d)) = drew_it x d f.rest (meet P1 a.before y (rec a.path (kept.Draw a.bound x) ∷ f.rest) (sym is ∙ f.is ∙ assoc a.before (rec a.path (kept.Draw a.bound x) ∷ []) f.rest))
       by (inr (o, z, d)) = none (meet P1 a.before y [] (sym is ∙ z ∙ nothing_more a.before))
 
@@ -328,20 +376,57 @@ module _ (S : Prog) (E : World) (T : List Rec) (n : ℕ) (P1 y : List Rec) (is :
   next : (p : Path) (x : Record) (z : List Rec) → no_draw x → y ≡ rec p x ∷ z → Front (P1 ++ (rec p x ∷ [])) (eval S (by_draws E (T ++ P1)) T n).made
   next p x z nd ey = inner (top_twin S E T n (T ++ P1))
     where
-      ends : (m : List Rec) → Past m y → Front (P1 ++ (rec p x ∷ [])) m
-      ends m (c, h, inl k) = front z (h ∙ ap (λ c. P1 ++ c) (sym k ∙ ey) ∙ sym (assoc P1 (rec p x ∷ []) z))
-      ends m ([], h, inr (q, j, i, l, k)) = absurd (subst no_draw (what (sym ey ∙ k)) nd)
+      ends : (m : List Rec) (q : Path) (j : ℤ) → Past m q j y → Front (P1 ++ (rec p x ∷ [])) m
+      ends m q j (c, h, inl k) = front z (h ∙ ap (λ c. P1 ++ c) (sym k ∙ ey) ∙ sym (assoc P1 (rec p x ∷ []) z))
+      ends m q j ([], h, inr (i, l, k)) = absurd (subst no_draw (what (sym ey ∙ k)) nd)
         where
           what : rec p x ∷ z ≡ rec q (kept.Draw j i) ∷ l → x ≡ kept.Draw j i
           what e = ap (λ r. elim r [ rec p x ↦ x ]) (same_head e)
-      ends m (r ∷ c, h, inr (q, j, i, l, k)) = front c (h ∙ ap (λ r. P1 ++ (r ∷ c)) (sym (same_head (sym ey ∙ k))) ∙ sym (assoc P1 (rec p x ∷ []) c))
+      ends m q j (r ∷ c, h, inr (i, l, k)) = front c (h ∙ ap (λ r. P1 ++ (r ∷ c)) (sym (same_head (sym ey ∙ k))) ∙ sym (assoc P1 (rec p x ∷ []) c))
 
       inner : Twin (T ++ P1) T root 0 (run S E T (suc n) root root false branch_end start (fuel n)) (run S (by_draws E (T ++ P1)) T (suc n) root root false branch_end start (fuel n)) → Front (P1 ++ (rec p x ∷ [])) (eval S (by_draws E (T ++ P1)) T n).made
       inner (alike w) = front z (ap (λ r. r.made) (sym w) ∙ is ∙ ap (λ y. P1 ++ y) ey ∙ sym (assoc P1 (rec p x ∷ []) z))
-      inner (apart a) = front_trans (ends a.before (past a)) a.second
+      inner (apart a) = front_trans (ends a.before a.path a.bound (past a)) a.second
+
+  -- the next record is a draw at a path where the trace that is left has nothing
+  module _ (p : Path) (k x : ℤ) (z : List Rec) (ey : y ≡ rec p (kept.Draw k x) ∷ z) (none : find p (T ++ P1) ≡ None) where
+    -- the second run doesn't make it
+    unmade : (r : List Rec) → Front (P1 ++ (rec p (kept.Draw k x) ∷ r)) (run S (by_draws E (T ++ P1)) T (suc n) root root false branch_end start (fuel n)).made → ⊥
+    unmade r f = none_some (sym (ap (λ o. drawn_of k o) none) ∙ born_draw E (T ++ P1) p k x (kept.Draw k x)
+        ((run_within S (by_draws E (T ++ P1)) T (suc n) root root false branch_end (branch_end_within (by_draws E (T ++ P1)) root) start (fuel n)).made
+        (subst (λ l. In Rec (rec p (kept.Draw k x)) l) (sym f.is) (in_left (P1 ++ (rec p (kept.Draw k x) ∷ r)) f.rest (in_right P1 (rec p (kept.Draw k x) ∷ r) first)))).1 refl)
+
+    stops_there : ((eval S (by_draws E (T ++ P1)) T n).out ≡ halted undrawn) × ((eval S (by_draws E (T ++ P1)) T n).made ≡ P1)
+    stops_there = inner (top_twin S E T n (T ++ P1))
+      where
+        here : (q : Path) (j i : ℤ) (l : List Rec) → rec p (kept.Draw k x) ∷ z ≡ rec q (kept.Draw j i) ∷ l → (q ≡ p) × (j ≡ k)
+        here q j i l e = (sym (ap path_of (same_head e)), sym (ap (λ r. bound_or k r) (same_head e)))
+
+        at_once : (a : Parted (T ++ P1) T root 0 (run S E T (suc n) root root false branch_end start (fuel n)) (run S (by_draws E (T ++ P1)) T (suc n) root root false branch_end start (fuel n))) →
+            a.before ≡ P1 ++ [] → (a.path ≡ p) × (a.bound ≡ k) → ((eval S (by_draws E (T ++ P1)) T n).out ≡ halted undrawn) × ((eval S (by_draws E (T ++ P1)) T n).made ≡ P1)
+        at_once a h (q, j) = let b = a.stays (ap (λ q. drawn_of a.bound (find q (T ++ P1))) q ∙ ap (λ o. drawn_of a.bound o) none) in (closed_undrawn _ _ b.0, b.1 ∙ h ∙ sym (nothing_more P1))
+
+        parts : (a : Parted (T ++ P1) T root 0 (run S E T (suc n) root root false branch_end start (fuel n)) (run S (by_draws E (T ++ P1)) T (suc n) root root false branch_end start (fuel n))) →
+            Past a.before a.path a.bound y → ((eval S (by_draws E (T ++ P1)) T n).out ≡ halted undrawn) × ((eval S (by_draws E (T ++ P1)) T n).made ≡ P1)
+        parts a (c, h, inl j) = absurd (unmade z (front_trans (front [] (h ∙ ap (λ c. P1 ++ c) (sym j ∙ ey) ∙ nothing_more _)) a.second))
+        parts a ([], h, inr (i, l, j)) = at_once a h (here a.path a.bound i l (sym ey ∙ j))
+        parts a (r ∷ c, h, inr (i, l, j)) = absurd (unmade c (front_trans (front [] (h ∙ ap (λ r. P1 ++ (r ∷ c)) (sym (same_head (sym ey ∙ j))) ∙ nothing_more _)) a.second))
+
+        inner : Twin (T ++ P1) T root 0 (run S E T (suc n) root root false branch_end start (fuel n)) (run S (by_draws E (T ++ P1)) T (suc n) root root false branch_end start (fuel n)) →
+            ((eval S (by_draws E (T ++ P1)) T n).out ≡ halted undrawn) × ((eval S (by_draws E (T ++ P1)) T n).made ≡ P1)
+        inner (alike w) = absurd (unmade z (front [] (ap (λ r. r.made) (sym w) ∙ is ∙ ap (λ y. P1 ++ y) ey ∙ nothing_more _)))
+        inner (apart a) = parts a (past a)
+
+-- Where the next record is a draw, at a path where the trace that is left has nothing.
+pub undrawn_next : (S : Prog) (E : World) (T : List Rec) (n : ℕ) (P1 : List Rec) (p : Path) (k x : ℤ) → find p (T ++ P1) ≡ None → Front (P1 ++ (rec p (kept.Draw k x) ∷ [])) (eval S E T n).made →
+    ((eval S (by_draws E (T ++ P1)) T n).out ≡ halted undrawn) × ((eval S (by_draws E (T ++ P1)) T n).made ≡ P1)
+undrawn_next S E T n P1 p k x none f = stops_there S E T n P1 (rec p (kept.Draw k x) ∷ f.rest) (f.is ∙ assoc P1 (rec p (kept.Draw k x) ∷ []) f.rest) p k x f.rest refl none
 
 pub stops_begin : StopsBegin
 stops_begin S E T n P1 f = begins S E T n P1 f.rest f.is
 
 pub stops_next : StopsNext
 stops_next S E T n P1 p x nd f = next S E T n P1 (rec p x ∷ f.rest) (f.is ∙ assoc P1 (rec p x ∷ []) f.rest) p x f.rest nd refl
+
+pub stops_grow : StopsGrow
+stops_grow S E T n P1 g f added = let h = stops_begin S E T n P1 f in grew added g (P1, h.rest, refl, h.is)

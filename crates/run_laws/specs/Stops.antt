@@ -6,7 +6,7 @@ use Rattle.turk_base.specs.declared.Record.TheVariants as kept
 use Rattle.turk_base.specs.Asks.{Rec, rec}
 use Rattle.turk_base.specs.Names.{Path, Units}
 use Rattle.turk_base.specs.Prog.{Prog}
-use Rattle.js_tree.specs.Eval.{eval, world}
+use Rattle.js_tree.specs.Eval.{eval, world, Grown}
 use Rattle.js_tree.specs.Run.{waits}
 use Rattle.js_tree.specs.World.{World}
 
@@ -38,6 +38,11 @@ no_draw (kept.Once d) = Unit {0}
 abbrev pub StopsNext : Type 0
 StopsNext = (S : Prog) (E : World) (T : List Rec) (n : ℕ) (P1 : List Rec) (p : Path) (x : Record) → no_draw x →
     Front (P1 ++ (rec p x ∷ [])) (eval S E T n).made → Front (P1 ++ (rec p x ∷ [])) (eval S (by_draws E (T ++ P1)) T n).made
+
+-- So a stop keeps a history grown, whatever draws the run had.
+abbrev pub StopsGrow : Type 0
+StopsGrow = (S : Prog) (E : World) (T : List Rec) (n : ℕ) (P1 : List Rec) → Grown E.session S n T E.pairs → Front P1 (eval S E T n).made →
+    (added : List (Units × Units)) → Grown E.session S n (T ++ P1) (E.pairs ++ added)
 
 -- Where it is a post, the run over the trace that is left, with no replies and no draws, makes it first.
 abbrev pub PostRests : Type 0

@@ -2,7 +2,7 @@
 #![tactic(auto)]
 
 ghost use Rattle.run_laws.specs.Claim.{InBudget, OrderVanishes, RecordsThere, ReplayLaw, TwoHistories};
-ghost use Rattle.run_laws.specs.Stops.{PostRests, RecordedDraws, StopsBegin, StopsNext, WaitsAgain};
+ghost use Rattle.run_laws.specs.Stops.{PostRests, RecordedDraws, StopsBegin, StopsGrow, StopsNext, WaitsAgain};
 
 /// From a grown trace, a run that ends without a reason has the end and the state of the plain run, unless that is spent.
 pub fn order_vanishes()
@@ -52,4 +52,9 @@ pub fn post_rests()
 /// Over the trace with what a run made that waits, and no replies and no draws, the run waits again and makes nothing.
 pub fn waits_again()
     ensures { WaitsAgain }
+{}
+
+/// The trace that a stop leaves is again one of a grown history.
+pub fn stops_grow()
+    ensures { StopsGrow }
 {}
