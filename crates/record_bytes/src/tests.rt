@@ -7,9 +7,7 @@ use std::alloc::Global;
 use std::test::Fail;
 use turk_base::{Bytes, Data, Name, NoMemory, Node, Record};
 
-const POST: [u8; 15] = [
-    0x01, 0, 1, 0, 0, 0, 0, 0, 0, 0, 2, 0, 0x68, 0, 0x69,
-];
+const POST: [u8; 15] = [0x01, 0, 1, 0, 0, 0, 0, 0, 0, 0, 2, 0, 0x68, 0, 0x69];
 
 const ONCE: [u8; 32] = [
     0x04, 0, 2, 0, 0, 0, 2, 0, 0, 0, 0, 6, 0, 0, 0, 2, 4, 0, 0, 0, 0, 0, 0, 0, 1, 5, 0, 0, 0, 1, 0,
@@ -90,7 +88,10 @@ fn records(rt: HostRuntime) -> Result<(), Fail> {
         (b"\x01\0\x01\0\0\0\0\0\0\0\x02\0\x68\0\x69\0", false),
         (b"\x05\0\x01\0\0\0\0", false),
         (b"\x01\0\0\0\0\0\0", false),
-        (b"\x04\0\x01\0\0\0\0\x07\0\0\0\x02\0\0\0\0\0\0\0\0\0\0", false),
+        (
+            b"\x04\0\x01\0\0\0\0\x07\0\0\0\x02\0\0\0\0\0\0\0\0\0\0",
+            false,
+        ),
         (b"\x04\0\x01\0\0\0\0\x04\0\x20\0\0\0\0\0\x01", false),
     ];
     for (i, (bytes, wanted)) in table.into_iter().enumerate() {
@@ -100,7 +101,8 @@ fn records(rt: HostRuntime) -> Result<(), Fail> {
 }
 
 const HEAD: [u8; 20] = [
-    0x48, 1, 1, 0x73, 0, 0, 0, 0, 0, 0x4C, 0x4B, 0x40, 0x70, 0x72, 0x69, 0x6E, 0x74, 0x28, 0x31, 0x29,
+    0x48, 1, 1, 0x73, 0, 0, 0, 0, 0, 0x4C, 0x4B, 0x40, 0x70, 0x72, 0x69, 0x6E, 0x74, 0x28, 0x31,
+    0x29,
 ];
 
 fn head(alloc: Global) -> Option<Head>
@@ -108,7 +110,11 @@ fn head(alloc: Global) -> Option<Head>
 {
     match Name::read(alloc, "s") {
         Ok(name) => match Bytes::from_slice(alloc, b"print(1)") {
-            Ok(script) => Some(Head { name, fuel: 5_000_000, script }),
+            Ok(script) => Some(Head {
+                name,
+                fuel: 5_000_000,
+                script,
+            }),
             Err(_) => None,
         },
         Err(_) => None,
@@ -162,6 +168,9 @@ fn task_reads(alloc: Global, bytes: &[u8]) -> Result<bool, NoMemory> {
 
 #[test]
 fn tasks(rt: HostRuntime) -> Result<(), Fail> {
-    assert_eq!(rt; task_reads(rt.alloc(), b"\0\0\0\x03\0s\0/\00\0\0\0\x01\0q"), Ok(true));
+    assert_eq!(rt;
+        task_reads(rt.alloc(), b"\0\0\0\x03\0s\0/\00\0\0\0\x01\0q"),
+        Ok(true)
+    );
     Ok(())
 }
