@@ -1,5 +1,5 @@
 -- Data, one part after the other.
-use Rattle.std.proofs.Common.{◌≡◌, ℕ, zero, suc, ◌+◌, ◌<◌, ◌≤◌, max, List, [], ◌∷◌, ◌++◌, length, get_or, take, drop, Bool, true, false, ◌||◌, ◌&&◌, not, ◌^◌, Result, Ok, Err, OnOk, refl, sym, ap, subst, ◌∙◌, append_assoc, arith}
+use Rattle.std.proofs.Common.{◌≡◌, ℕ, zero, suc, ◌+◌, ◌<◌, ◌≤◌, List, [], ◌∷◌, ◌++◌, length, get_or, take, Bool, true, false, ◌||◌, ◌&&◌, not, ◌^◌, Result, Ok, Err, OnOk, refl, sym, ap, subst, ◌∙◌, append_assoc, arith}
 use Rattle.std.specs.Map.{keys_of}
 use Rattle.std.specs.Prelude.{nat_eq}
 use Rattle.std.specs.Int.{w32, to_be_bytes}
@@ -7,7 +7,7 @@ use Rattle.std.specs.List.{list_any, AllByRecursion, IsDistinct}
 use Rattle.std.specs.Cmp.Lexicographic.{pointwise}
 use Rattle.record_bytes.specs.Reading.{are_distinct}
 use Rattle.std.proofs.lemmas.List.{append-nil, take_more}
-use Rattle.turk_base.specs.Data.{Data, DList, DFields, IsDistinctKeys, Items, NoItems, Item, Fields, NoFields, Field, items_of, fields_of, nesting, nesting_items, nesting_fields, keys}
+use Rattle.turk_base.specs.Data.{Data, DList, DFields, IsDistinctKeys, NoItems, NoFields, items_of, fields_of, nesting, nesting_items, nesting_fields, keys}
 use Rattle.record_bytes.specs.Spelling.{data_bytes, items_bytes, fields_bytes, text_bytes, count_items, count_fields}
 use Rattle.record_bytes.specs.Limits.{IsTextWithin, IsDataWithin, AreItemsWithin, AreFieldsWithin, AreUnits, IsData, AreItems, AreFields}
 

@@ -1,21 +1,21 @@
 -- What is read is spelled so, within the limits.
-use Rattle.std.proofs.Common.{◌≡◌, ℕ, zero, suc, ◌+◌, ◌-◌, ◌^◌, ◌<◌, ◌≤◌, max, Bool, true, false, cond, ◌&&◌, ltb, leb, List, [], ◌∷◌, ◌++◌, length, get_or, take, drop, Option, Some, None, refl, sym, ap, subst, ◌∙◌, append_assoc, arith, length-append, inl, inr}
-use Rattle.std.specs.Prelude.{ℤ, pos, negsuc, map, nat_eq, not}
+use Rattle.std.proofs.Common.{◌≡◌, ℕ, zero, suc, ◌+◌, ◌-◌, ◌^◌, ◌<◌, ◌≤◌, Bool, true, false, cond, ◌&&◌, ltb, leb, List, [], ◌∷◌, ◌++◌, length, get_or, take, drop, Option, Some, None, refl, sym, ap, subst, ◌∙◌, append_assoc, arith, inl, inr}
+use Rattle.std.specs.Prelude.{ℤ, pos, negsuc, map}
 use Rattle.std.specs.List.{flat_map, AllByRecursion}
 use Rattle.std.specs.Int.{Width, w16, w32, w64, byte_len, from_be_bytes, to_be_bytes}
-use Rattle.std.proofs.lemmas.Bool.{cases_lt, ltb-false, ltb-true, leb-true, leb-false}
+use Rattle.std.proofs.lemmas.Bool.{cases_lt, ltb-false, ltb-true, leb-true}
 use Rattle.std.proofs.lemmas.Int.{ints}
 use Rattle.std.proofs.lemmas.List.{take-append-drop, length-take, get_or-drop, get_or-take, get_or_past, append-nil}
 use Rattle.std.proofs.lemmas.List.Concat.{flat_map-cons}
 use Rattle.std.proofs.lemmas.Nat.{be_bytes_2, be_bytes_4, be_bytes_8}
 use Rattle.turk_base.specs.Whole.{IsWhole}
-use Rattle.turk_base.specs.Data.{Data, DUndefined, DNull, DTruth, DNumber, DText, DList, DFields, Items, NoItems, Item, Fields, NoFields, Field, items_of, fields_of, nesting, nesting_items, nesting_fields, keys, IsDistinctKeys}
+use Rattle.turk_base.specs.Data.{Data, DUndefined, DNull, DTruth, DNumber, DText, DList, DFields, items_of, fields_of, nesting, nesting_items, nesting_fields, IsDistinctKeys}
 use Rattle.turk_base.specs.declared.Entry.{Entry}
 use Rattle.turk_base.specs.declared.Record.{Record}
 use Rattle.turk_base.specs.declared.Record.TheVariants.{Post, Reply, Draw, Once}
 use Rattle.record_bytes.specs.Spelling.{text_bytes, path_bytes, twos_complement, number_bytes, count_items, count_fields, data_bytes, items_bytes, fields_bytes, kind_of, body_bytes, entry_bytes, task_bytes}
-use Rattle.record_bytes.specs.Limits.{IsTextWithin, AreUnits, IsDataWithin, AreItemsWithin, AreFieldsWithin, IsDraw, IsRecordWithin, IsWithin, IsData, AreItems, AreFields, IsRecord, IsEntry, Spells, SpellsTask}
-use Rattle.record_bytes.specs.Reading.{◌>>=◌, Reader, byte_at, number_at, numbers_at, text_at, path_at, whole_from, whole_at, are_distinct, items_at, keyed, field_at, fields_at, list_with, fields_with, deeper, tagged_at, data_with, data_at, parts_at, draw_at, reply_at, body_at, entry_at, task_pair, task_at, only, whole}
+use Rattle.record_bytes.specs.Limits.{IsTextWithin, AreUnits, IsDataWithin, AreItemsWithin, AreFieldsWithin, IsRecordWithin, IsWithin, IsData, AreItems, AreFields, IsRecord, IsEntry, Spells, SpellsTask}
+use Rattle.record_bytes.specs.Reading.{◌>>=◌, Reader, number_at, numbers_at, text_at, path_at, whole_from, whole_at, are_distinct, items_at, fields_at, list_with, fields_with, tagged_at, data_with, data_at, draw_at, reply_at, body_at, entry_at, task_pair, task_at, only, whole}
 use Rattle.record_bytes.proofs.Parts.{count_items_of, count_fields_of, keys_fields_of, distinct_by_test}
 
 abbrev pub IsBytes : List ℕ → Type 0

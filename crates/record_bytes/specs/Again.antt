@@ -1,12 +1,12 @@
 -- What is spelled is read again, whatever follows it: so no spelling begins another.
-use Rattle.std.proofs.Common.{◌≡◌, ℕ, zero, suc, ◌+◌, ◌-◌, ◌^◌, ◌<◌, ◌≤◌, max, Bool, true, false, cond, ◌&&◌, ltb, leb, List, [], ◌∷◌, ◌++◌, length, take, drop, Option, Some, None, refl, sym, ap, subst, ◌∙◌, append_assoc, arith, length-append}
-use Rattle.std.specs.Prelude.{ℤ, pos, negsuc, map, nat_eq, not}
+use Rattle.std.proofs.Common.{◌≡◌, ℕ, zero, suc, ◌+◌, ◌-◌, ◌^◌, ◌<◌, ◌≤◌, true, false, cond, ◌&&◌, ltb, leb, List, [], ◌∷◌, ◌++◌, length, Some, None, refl, ap, ◌∙◌, append_assoc, arith, length-append}
+use Rattle.std.specs.Prelude.{ℤ, pos, negsuc, map, nat_eq}
 use Rattle.std.specs.List.{flat_map, AllByRecursion, IsDistinct, list_any}
 use Rattle.std.specs.Cmp.Lexicographic.{pointwise}
 use Rattle.std.specs.Int.{Width, w16, w32, w64, byte_len, from_be_bytes, to_be_bytes}
 use Rattle.std.proofs.lemmas.Bool.{le-ltb, lt-ltb, le-leb, lt-leb}
 use Rattle.std.proofs.lemmas.Int.{ints}
-use Rattle.std.proofs.lemmas.List.{take_at, drop_at, append-nil}
+use Rattle.std.proofs.lemmas.List.{take_at, drop_at}
 use Rattle.std.proofs.lemmas.List.Concat.{flat_map-cons}
 use Rattle.std.proofs.lemmas.Nat.{from_be_bytes-to_be_bytes_2, from_be_bytes-to_be_bytes_4, from_be_bytes-to_be_bytes_8}
 use Rattle.turk_base.specs.Whole.{IsWhole}
@@ -15,8 +15,8 @@ use Rattle.turk_base.specs.declared.Entry.{Entry}
 use Rattle.turk_base.specs.declared.Record.{Record}
 use Rattle.turk_base.specs.declared.Record.TheVariants.{Post, Reply, Draw, Once}
 use Rattle.record_bytes.specs.Spelling.{text_bytes, path_bytes, twos_complement, number_bytes, count_items, count_fields, data_bytes, items_bytes, fields_bytes, kind_of, body_bytes, entry_bytes, task_bytes}
-use Rattle.record_bytes.specs.Limits.{IsTextWithin, AreUnits, IsDataWithin, AreItemsWithin, AreFieldsWithin, IsDraw, IsRecordWithin, IsWithin, IsData, AreItems, AreFields, IsRecord, IsEntry, Spells, SpellsTask}
-use Rattle.record_bytes.specs.Reading.{◌>>=◌, Reader, byte_at, number_at, numbers_at, text_at, path_at, whole_from, whole_at, are_distinct, items_at, keyed, field_at, fields_at, list_with, fields_with, deeper, tagged_at, data_with, data_at, parts_at, draw_at, reply_at, body_at, entry_at, task_pair, task_at}
+use Rattle.record_bytes.specs.Limits.{IsTextWithin, AreUnits, IsDataWithin, AreItemsWithin, AreFieldsWithin, IsDraw, IsRecordWithin, IsWithin, IsData, AreItems, AreFields, IsRecord, IsEntry}
+use Rattle.record_bytes.specs.Reading.{◌>>=◌, Reader, byte_at, number_at, numbers_at, text_at, path_at, whole_from, whole_at, are_distinct, items_at, fields_at, list_with, fields_with, tagged_at, data_at, parts_at, draw_at, reply_at, body_at, entry_at, task_pair, task_at}
 
 -- a width, and how many numbers it holds
 pub record Holds (w : Width) (limit : ℕ) : Type 0 where

@@ -1,5 +1,5 @@
 -- What has a spelling: the limits that a caller keeps, and what every value of the code's types keeps (own rules).
-use Rattle.std.specs.Prelude.{◌≡◌, ◌+◌, ◌^◌, ◌<◌, ◌≤◌, ℕ, List, [], ◌∷◌, length, ℤ, pos}
+use Rattle.std.specs.Prelude.{◌≡◌, ◌^◌, ◌<◌, ◌≤◌, ℕ, List, length, ℤ, pos}
 use Rattle.std.specs.List.{AllByRecursion}
 use Rattle.turk_base.specs.Whole.{IsWhole}
 use Rattle.turk_base.specs.SessionName.{IsName}

@@ -1,6 +1,6 @@
 -- Reading from left to right: each reader gives a value and the bytes after it, or nothing where the front of the bytes
 -- is no spelling. Beside Spelling it is the second description; that the two agree is proved.
-use Rattle.std.specs.Prelude.{◌≡◌, ◌+◌, ◌-◌, ◌^◌, ℕ, zero, suc, List, [], ◌∷◌, length, take, drop, map, Option, Some, None, Result, Ok, Err, Bool, true, false, ◌&&◌, not, nat_lt, nat_le, nat_eq, ℤ, pos, negsuc, if◌then◌else◌}
+use Rattle.std.specs.Prelude.{◌≡◌, ◌-◌, ◌^◌, ℕ, zero, suc, List, [], ◌∷◌, length, take, drop, map, Option, Some, None, Result, Ok, Err, Bool, true, false, ◌&&◌, not, nat_lt, nat_le, nat_eq, ℤ, pos, negsuc, if◌then◌else◌}
 use Rattle.std.specs.Int.{Width, w16, w32, w64, byte_len, from_be_bytes}
 use Rattle.std.specs.List.{list_any}
 use Rattle.std.specs.Cmp.Lexicographic.{pointwise}

@@ -1,47 +1,67 @@
 //! Worked spellings, bytes that spell nothing, and that each call that takes memory succeeds with ample memory.
+ghost use Rattle.std.specs.Prelude.{IfSome};
+ghost use Rattle.record_bytes.specs.Limits.{IsHeadWithin};
+
 use crate::{Head, decode, decode_head, decode_task, encode, encode_head, encode_task};
 use std::alloc::Global;
 use std::test::Fail;
-use turk_base::{Bytes, Data, Entry, Name, Node, NoMemory, Path, Record, Units, Whole};
+use turk_base::{Bytes, Data, Name, NoMemory, Node, Record};
 
-const POST: [u8; 15] = [
-    0x01, 0, 1, 0, 0, 0, 0, 0, 0, 0, 2, 0, 0x68, 0, 0x69,
-];
+const POST: [u8; 15] = [0x01, 0, 1, 0, 0, 0, 0, 0, 0, 0, 2, 0, 0x68, 0, 0x69];
 
 const ONCE: [u8; 32] = [
     0x04, 0, 2, 0, 0, 0, 2, 0, 0, 0, 0, 6, 0, 0, 0, 2, 4, 0, 0, 0, 0, 0, 0, 0, 1, 5, 0, 0, 0, 1, 0,
     0x61,
 ];
 
-fn post(alloc: Global) -> Result<Entry, NoMemory> {
-    Ok(Entry {
-        path: Path::from_slice(alloc, &[0])?,
-        what: Record::Post(Units::from_slice(alloc, &[0x68, 0x69])?),
-    })
-}
-
-fn once(alloc: Global) -> Result<Entry, NoMemory> {
-    let mut items = Vec::new(alloc);
-    if items.push(Data::make(Node::Number(Whole::make(1)))).is_err() {
-        return Err(NoMemory);
-    }
-    if items.push(Data::make(Node::Text(Units::from_slice(alloc, &[0x61])?))).is_err() {
-        return Err(NoMemory);
-    }
-    Ok(Entry {
-        path: Path::from_slice(alloc, &[2, 0])?,
-        what: Record::Once(Data::make(Node::List(items))),
-    })
-}
-
-// Whether an entry is spelled so.
-fn is_spelled(alloc: Global, entry: Result<Entry, NoMemory>, wanted: &[u8]) -> bool {
-    match entry {
-        Ok(entry) => match encode(alloc, &entry) {
-            Ok(bytes) => bytes.as_slice() == wanted,
-            Err(_) => false,
+// Whether the record that the bytes spell is Post("hi") at path 0.
+fn is_post(alloc: Global, bytes: &[u8]) -> bool {
+    match decode(alloc, bytes) {
+        Ok(Some(entry)) => match &entry.what {
+            Record::Post(text) => {
+                entry.path.as_slice() == [0_u32].as_slice()
+                    && text.as_slice() == [0x68_u16, 0x69].as_slice()
+            }
+            _ => false,
         },
-        Err(_) => false,
+        _ => false,
+    }
+}
+
+// Whether the data is the list 1, "a".
+fn is_list(data: &Data) -> bool {
+    match data.node() {
+        Node::List(items) => {
+            items.len() == 2 && is_number(&items[0], 1) && is_text(&items[1], &[0x61])
+        }
+        _ => false,
+    }
+}
+
+fn is_number(data: &Data, wanted: i64) -> bool {
+    match data.node() {
+        Node::Number(number) => number.get() == wanted,
+        _ => false,
+    }
+}
+
+fn is_text(data: &Data, wanted: &[u16]) -> bool {
+    match data.node() {
+        Node::Text(text) => text.as_slice() == wanted,
+        _ => false,
+    }
+}
+
+// Whether the record that the bytes spell is Once of the list 1, "a" at path 2.0.
+fn is_once(alloc: Global, bytes: &[u8]) -> bool {
+    match decode(alloc, bytes) {
+        Ok(Some(entry)) => match &entry.what {
+            Record::Once(data) => {
+                entry.path.as_slice() == [2_u32, 0].as_slice() && is_list(data)
+            }
+            _ => false,
+        },
+        _ => false,
     }
 }
 
@@ -59,8 +79,8 @@ fn reads(alloc: Global, bytes: &[u8]) -> Option<bool> {
 
 #[test]
 fn records(rt: HostRuntime) -> Result<(), Fail> {
-    assert!(rt; is_spelled(rt.alloc(), post(rt.alloc()), &POST));
-    assert!(rt; is_spelled(rt.alloc(), once(rt.alloc()), &ONCE));
+    assert!(rt; is_post(rt.alloc(), &POST));
+    assert!(rt; is_once(rt.alloc(), &ONCE));
     let table: [(&[u8], bool); 8] = [
         (&POST, true),
         (&ONCE, true),
@@ -68,7 +88,10 @@ fn records(rt: HostRuntime) -> Result<(), Fail> {
         (b"\x01\0\x01\0\0\0\0\0\0\0\x02\0\x68\0\x69\0", false),
         (b"\x05\0\x01\0\0\0\0", false),
         (b"\x01\0\0\0\0\0\0", false),
-        (b"\x04\0\x01\0\0\0\0\x07\0\0\0\x02\0\0\0\0\0\0\0\0\0\0", false),
+        (
+            b"\x04\0\x01\0\0\0\0\x07\0\0\0\x02\0\0\0\0\0\0\0\0\0\0",
+            false,
+        ),
         (b"\x04\0\x01\0\0\0\0\x04\0\x20\0\0\0\0\0\x01", false),
     ];
     for (i, (bytes, wanted)) in table.into_iter().enumerate() {
@@ -78,13 +101,20 @@ fn records(rt: HostRuntime) -> Result<(), Fail> {
 }
 
 const HEAD: [u8; 20] = [
-    0x48, 1, 1, 0x73, 0, 0, 0, 0, 0, 0x4C, 0x4B, 0x40, 0x70, 0x72, 0x69, 0x6E, 0x74, 0x28, 0x31, 0x29,
+    0x48, 1, 1, 0x73, 0, 0, 0, 0, 0, 0x4C, 0x4B, 0x40, 0x70, 0x72, 0x69, 0x6E, 0x74, 0x28, 0x31,
+    0x29,
 ];
 
-fn head(alloc: Global) -> Option<Head> {
+fn head(alloc: Global) -> Option<Head>
+    ensures { IfSome result (λ h. IsHeadWithin h) }
+{
     match Name::read(alloc, "s") {
         Ok(name) => match Bytes::from_slice(alloc, b"print(1)") {
-            Ok(script) => Some(Head { name, fuel: 5_000_000, script }),
+            Ok(script) => Some(Head {
+                name,
+                fuel: 5_000_000,
+                script,
+            }),
             Err(_) => None,
         },
         Err(_) => None,
@@ -123,20 +153,24 @@ fn heads(rt: HostRuntime) -> Result<(), Fail> {
     Ok(())
 }
 
-// Whether the task of "s/0" and "q" is spelled and read as it should be.
-fn task_reads(alloc: Global) -> Result<bool, NoMemory> {
-    let token = Units::from_slice(alloc, &[0x73, 0x2F, 0x30])?;
-    let text = Units::from_slice(alloc, &[0x71])?;
-    let bytes = encode_task(alloc, &token, &text)?;
-    let spelled = bytes.as_slice() == b"\0\0\0\x03\0s\0/\00\0\0\0\x01\0q".as_slice();
-    match decode_task(alloc, &bytes)? {
-        Some(task) => Ok(spelled && task.0 == token && task.1 == text),
+// Whether the bytes spell the task of "s/0" and "q", and it is spelled so again.
+fn task_reads(alloc: Global, bytes: &[u8]) -> Result<bool, NoMemory> {
+    match decode_task(alloc, bytes)? {
+        Some(task) => {
+            let again = encode_task(alloc, &task.0, &task.1)?;
+            let token = task.0.as_slice() == [0x73_u16, 0x2F, 0x30].as_slice();
+            let text = task.1.as_slice() == [0x71_u16].as_slice();
+            Ok(again.as_slice() == bytes && token && text)
+        }
         None => Ok(false),
     }
 }
 
 #[test]
 fn tasks(rt: HostRuntime) -> Result<(), Fail> {
-    assert_eq!(rt; task_reads(rt.alloc()), Ok(true));
+    assert_eq!(rt;
+        task_reads(rt.alloc(), b"\0\0\0\x03\0s\0/\00\0\0\0\x01\0q"),
+        Ok(true)
+    );
     Ok(())
 }

@@ -1,4 +1,4 @@
-use Rattle.std.proofs.Common.{rules, refl, ◌≡◌, length}
+use Rattle.std.proofs.Common.{rules, refl, length}
 use Rattle.record_bytes.proofs.Named.{head_written}
 use Rattle.record_bytes.proofs.heads.encode_head.Goals as goal
 

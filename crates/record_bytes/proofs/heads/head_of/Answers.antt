@@ -1,8 +1,6 @@
-use Rattle.std.proofs.Common.{rules, ◌≡◌, arith, subst, ap, sym, ◌∙◌, List, ℕ, length, ◌<◌, ◌≤◌}
+use Rattle.std.proofs.Common.{◌≡◌, arith, subst, ap, sym, ◌∙◌, length}
 use Rattle.std.proofs.lemmas.Result.{err_from_is_err_and}
 use Rattle.turk_base.specs.SessionName.{IsName}
-use Rattle.record_bytes.specs.declared.Head.{Head}
-use Rattle.record_bytes.specs.Limits.{SpellsHead}
 use Rattle.record_bytes.specs.declared.stop.ReadStop.TheVariants.{Bad}
 use Rattle.record_bytes.proofs.Named.{head_made, head_same, no_fuel, unnamed, same_stop}
 use Rattle.record_bytes.proofs.heads.head_of.Goals.{then-fuel-eq0-via-then-fuel-eq0, then-fuel-eq0-via-else-fuel-eq0+then-fuel-gt-MOST_FUEL}
@@ -34,7 +32,7 @@ returns-then-script-gt-LONGEST_SCRIPT-clause-bad c bad h spelled =
 pub returns-in_ok-from_slice-in-Ok-clause-good : goal.returns-in_ok-from_slice-in-Ok-clause-good
 returns-in_ok-from_slice-in-Ok-clause-good c =
     let made = head_made c.args.bytes.now c.in-Some.name.now c.in-Some.rest.now c.in_ok-fuel.fuel c.in_ok-fuel.script.now (λ i. omega (arith, c.type_inv.bytes i)) c.in-Some.ensures.some c.in-Ok.ensures.name c.in_ok-fuel.ensures
-        (omega (arith, c.if-fuel-eq0.false)) (omega (arith, c.if-fuel-gt-MOST_FUEL.false)) (omega (arith, c.if-script-gt-LONGEST_SCRIPT.false)) in
+    (omega (arith, c.if-fuel-eq0.false)) (omega (arith, c.if-fuel-gt-MOST_FUEL.false)) (omega (arith, c.if-script-gt-LONGEST_SCRIPT.false)) in
     rw (c.in-Ok.ensures.good, c.in_ok-from_slice-in-Ok.ensures) made
 
 pub returns-in-Err-Bad-clause-bad : goal.returns-in-Err-Bad-clause-bad

@@ -1,4 +1,4 @@
-use Rattle.std.proofs.Common.{◌≡◌, arith}
+use Rattle.std.proofs.Common.{arith}
 use Rattle.record_bytes.specs.Unique.{entry_whole, none_apart}
 use Rattle.record_bytes.specs.Reading.{entry_at, whole}
 use Rattle.record_bytes.proofs.Takes.{entry_spelled}

@@ -1,4 +1,4 @@
-use Rattle.std.proofs.Common.{◌≡◌, arith}
+use Rattle.std.proofs.Common.{arith}
 use Rattle.record_bytes.specs.Unique.{task_whole, none_apart}
 use Rattle.record_bytes.specs.Reading.{task_at, whole}
 use Rattle.record_bytes.proofs.Takes.{task_spelled}

@@ -1,9 +1,9 @@
-use Rattle.std.proofs.Common.{◌≡◌, arith, rules, sym, ap, ◌∙◌, subst, length, ◌++◌, ◌∷◌, [], List, ℕ}
+use Rattle.std.proofs.Common.{◌≡◌, arith, rules, sym, ap, subst, length, ◌++◌, ◌∷◌, []}
 use Rattle.std.specs.Int.{w32, to_be_bytes}
-use Rattle.turk_base.specs.Data.{Data, nesting, items_of, fields_of}
+use Rattle.turk_base.specs.Data.{Data, nesting}
 use Rattle.record_bytes.specs.Limits.{IsDataWithin, IsData}
 use Rattle.record_bytes.specs.Spelling.{data_bytes}
-use Rattle.record_bytes.proofs.Parts.{count_items_of, count_fields_of, items_within_at, items_nesting_at, fields_within_at, fields_nesting_at, items_step, fields_step, no_items, no_fields, list_small, fields_small, list_written, fields_written, is_list, is_fields, on_ok_map}
+use Rattle.record_bytes.proofs.Parts.{items_within_at, items_nesting_at, fields_within_at, fields_nesting_at, items_step, fields_step, no_items, no_fields, list_small, fields_small, list_written, fields_written, is_list, is_fields, on_ok_map}
 use Rattle.record_bytes.proofs.trees.+putting.Goals as goal
 
 pub put_items-loop-item-init : goal.put_items-loop-item-init

@@ -1,7 +1,7 @@
-use Rattle.std.proofs.Common.{◌≡◌, arith, rules, sym, ap, ◌∙◌, subst, length, ◌++◌, ◌∷◌, [], true, map, List, ℕ}
+use Rattle.std.proofs.Common.{◌≡◌, sym, ap, ◌∙◌, ◌++◌, ◌∷◌, [], map, List, ℕ}
 use Rattle.std.proofs.lemmas.Result.{err_from_is_err_and}
 use Rattle.turk_base.specs.Data.{Data}
-use Rattle.record_bytes.specs.Reading.{data_at, items_at, fields_at, field_at, tagged_at, parts_at, are_distinct}
+use Rattle.record_bytes.specs.Reading.{data_at, items_at, fields_at, field_at, are_distinct}
 use Rattle.record_bytes.proofs.Loops.{goes_on, ends, is_done, items_counted, fields_counted, data_gives, data_none}
 use Rattle.record_bytes.proofs.Parts.{distinct_by_test}
 use Rattle.record_bytes.proofs.trees.+reading.Goals as goal
