@@ -7,7 +7,7 @@ use Rattle.turk_base.specs.Names.{root, sub, In, first, later}
 use Rattle.turk_base.specs.Start.{start}
 use Rattle.turk_base.specs.State.{any_gone, once_call, next_call, enter}
 use Rattle.js_tree.specs.Eval.{fuel}
-use Rattle.js_tree.specs.Run.{branch_end, body_end, run, on_once, once_goes, on_fork, fork_goes, forked}
+use Rattle.js_tree.specs.Run.{branch_end, run, on_once, once_goes, on_fork, fork_goes, forked}
 use Rattle.run_laws.proofs.Counted.{branch_end_counted, body_end_counted, run_counted}
 use Rattle.run_laws.proofs.Order.{closed_ended}
 use Rattle.run_laws.proofs.Fronts.{assoc, find_over, find_new}

@@ -21,6 +21,7 @@ pub mod Budget
 pub mod Fronts
 pub mod Parting
 pub mod Mirror
+pub mod Reports
 pub mod Cuts
 pub mod Counted
 pub mod Looks

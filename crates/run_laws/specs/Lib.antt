@@ -1,3 +1,4 @@
 pub mod Strict
 pub mod Claim
 pub mod Stops
+pub mod Reports

@@ -2,6 +2,7 @@
 #![tactic(auto)]
 
 ghost use Rattle.run_laws.specs.Claim.{InBudget, OrderVanishes, RecordsThere, ReplayLaw, TwoHistories};
+ghost use Rattle.run_laws.specs.Reports.{OrderReports, ReplayReports};
 ghost use Rattle.run_laws.specs.Stops.{PostRests, RecordedDraws, StopsBegin, StopsGrow, StopsNext, WaitsAgain};
 
 /// From a grown trace, a run that ends without a reason has the end and the state of the plain run, unless that is spent.
@@ -57,4 +58,14 @@ pub fn waits_again()
 /// The trace that a stop leaves is again one of a grown history.
 pub fn stops_grow()
     ensures { StopsGrow }
+{}
+
+/// The replay law of what is told of a run: the same end, output and verdict, and nothing made.
+pub fn replay_reports()
+    ensures { ReplayReports }
+{}
+
+/// The order law of what is told of runs: the plain run has the same end and output with the fuel of the budget.
+pub fn order_reports()
+    ensures { OrderReports }
 {}
