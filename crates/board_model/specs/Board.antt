@@ -1,5 +1,5 @@
 -- What a board does with a task (own rules).
-use Rattle.std.specs.Prelude.{◌≡◌, ◌⊎◌, ◌+◌, ◌-◌, ◌^◌, ◌<◌, ◌≤◌, min, ℕ, List, [], ◌∷◌, ◌++◌, Option, Some, None, Result, Ok, Err, IsErrOf}
+use Rattle.std.specs.Prelude.{◌≡◌, ◌⊎◌, ◌+◌, ◌-◌, ◌^◌, ◌≤◌, min, ℕ, List, [], ◌∷◌, ◌++◌, Some, None, Result, Ok, Err, IsErrOf}
 use Rattle.turk_base.specs.Trace.{answer}
 use Rattle.board_model.specs.Tokens.{Tasks}
 use Rattle.board_model.specs.declared.Posted.{Posted}
