@@ -1,0 +1,4 @@
+pub mod Leaves
+pub mod Lines
+pub mod LeafData
+pub mod Rows
