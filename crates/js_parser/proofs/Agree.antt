@@ -1,7 +1,7 @@
 -- The table and the productions agree on expressions.
 use Rattle.std.proofs.Common.{ℕ, ◌+◌, ◌≤◌, Bool, true, List, [], Ok}
 use Rattle.js_lexer.specs.declared.Token.{Token}
-use Rattle.js_parser.specs.Rules.{Operand}
+use Rattle.js_parser.specs.declared.classes.Operand.{Operand}
 use Rattle.js_parser.specs.Rules.{Symbol as s}
 use Rattle.js_parser.specs.Grammar.{grammar}
 use Rattle.js_parser.specs.Goes.{Goes}

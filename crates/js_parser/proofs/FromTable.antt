@@ -4,26 +4,32 @@ use Rattle.js_lexer.specs.declared.Mark.TheVariants as m
 use Rattle.js_lexer.specs.declared.Reserved.TheVariants as w
 use Rattle.js_tree.specs.declared.Script as script
 use Rattle.js_lexer.specs.declared.Token.{Token}
-use Rattle.js_parser.specs.Words.{is, is_word, Units, infix_at, Infix, assign_of, Prefix, prefix_of, step_of, Tail, tail_of, key_of}
-use Rattle.js_parser.specs.Words.{Prefix as prefix}
-use Rattle.js_parser.specs.Words.{Tail as tail}
+use Rattle.js_parser.specs.declared.classes.Infix.{Infix}
+use Rattle.js_parser.specs.declared.classes.Prefix.{Prefix}
+use Rattle.js_parser.specs.declared.classes.Tail.{Tail}
+use Rattle.js_parser.specs.Words.{is, is_word, Units, infix_at, assign_of, prefix_of, step_of, tail_of, key_of}
+use Rattle.js_parser.specs.declared.classes.Prefix.TheVariants as prefix
+use Rattle.js_parser.specs.declared.classes.Tail.TheVariants as tail
 use Rattle.js_tree.specs.declared.Sign.{Sign}
 use Rattle.js_tree.specs.declared.Expr as expr
 use Rattle.js_tree.specs.declared.Key.TheVariants as k
-use Rattle.js_parser.specs.Rules.Written.{as_name, as_member, otherwise}
 use Rattle.js_parser.specs.Productions.{goes_on}
 use Rattle.std.proofs.Common.{◌&&◌, not}
-use Rattle.js_parser.specs.Rules.{Symbol, Value, Rule, Operand, Written}
+use Rattle.js_parser.specs.declared.classes.Operand.{Operand}
+use Rattle.js_parser.specs.Rules.{Symbol, Value, Rule}
 use Rattle.js_parser.specs.Rules.{Symbol as s}
 use Rattle.js_parser.specs.Rules.Rule.{give, peek, read}
 use Rattle.js_tree.specs.Trees.{field_of}
-use Rattle.js_parser.specs.Grammar.{grammar, expect, more_by, assign_by, target, deleted, unary_by, postfix_by, with_suffixes, given_arguments, fixed, as_read, a_member, suffixes_by, new_after, plain, go_on, field_by, name_by, parameters, function, primary_by}
+use Rattle.js_tree.specs.Trees.{ExprLevel, expr_level}
+use Rattle.js_tree.specs.declared.ExprNode.TheOpen.{ExprNode-F}
+use Rattle.js_parser.specs.Grammar.{grammar, expect, more_by, assign_by, target, deleted_level, unary_by, postfix_by, with_suffixes, given_arguments, fixed, as_read, a_member, suffixes_by, new_after, plain, go_on, field_by, name_by, parameters, function, primary_by}
 use Rattle.js_parser.specs.Exprs as made
 use Rattle.js_tree.specs.declared.Field as field
-use Rattle.js_parser.specs.Words.{Name, name_of, literal_key_of, Head, head_of}
-use Rattle.js_parser.specs.Words.Name.{named, out}
-use Rattle.js_parser.specs.Words.{Name as no_name}
-use Rattle.js_parser.specs.Words.{Head as head}
+use Rattle.js_parser.specs.declared.classes.Name.{Name}
+use Rattle.js_parser.specs.declared.classes.Head.{Head}
+use Rattle.js_parser.specs.Words.{name_of, literal_key_of, head_of}
+use Rattle.js_parser.specs.declared.classes.Name.TheVariants as ident
+use Rattle.js_parser.specs.declared.classes.Head.TheVariants as head
 use Rattle.js_parser.specs.Paths.{Path, Table}
 use Rattle.js_parser.specs.Productions.{Part, Of, Reads}
 use Rattle.js_parser.specs.Productions.{Part as p}
@@ -89,7 +95,7 @@ target_of_postfix (r.step g e e' e'') q = absurd (let x : false ≡ true = q in 
 target_of_postfix (r.no_step g e) q = g
 
 target_of_unary : {ts rest : List Token} {a : Operand} {h : ℕ} → R p.Unary ts a h rest → target a ≡ true → R (p.Whole true) ts a h rest
-target_of_unary (r.delete e g e') q = absurd (let x : false ≡ true = q in cc)
+target_of_unary (r.delete e g e' e'') q = absurd (let x : false ≡ true = q in cc)
 target_of_unary (r.void e g) q = absurd (let x : false ≡ true = q in cc)
 target_of_unary (r.typeof e g) q = absurd (let x : false ≡ true = q in cc)
 target_of_unary (r.signed e g) q = absurd (let x : false ≡ true = q in cc)
@@ -131,14 +137,13 @@ more no_in (suc level) left height ts = on_peek (Meant (s.More no_in (suc level)
 
 -- ---- unary, postfix
 
-deleted_at : (ts : List Token) (t : Token) (a : Operand) (i : ℕ) (us : List Token) → prefix_of t.kind ≡ prefix.Delete → R p.Unary ts a i us → (o : Written) → a.written ≡ o
-    → Then Meant s.Unary (deleted o) us (λ v h rest. R p.Unary (t ∷ ts) v (max 1 (max (0 + i) h)) rest)
-deleted_at ts t a i us e g (as_member base key) q = on_give (at {h = max 1 i} (omega arith) (r.delete e g q))
-deleted_at ts t a i us e g as_name q = on_refuse
-deleted_at ts t a i us e g otherwise q = on_refuse
+deleted_at : (ts : List Token) (t : Token) (a : Operand) (i : ℕ) (us : List Token) → prefix_of t.kind ≡ prefix.Delete → R p.Unary ts a i us → (b : Bool) → a.target ≡ b → (x : ExprLevel) → expr_level a.expr ≡ x
+    → Then Meant s.Unary (deleted_level b x) us (λ v h rest. R p.Unary (t ∷ ts) v (max 1 (max (0 + i) h)) rest)
+deleted_at ts t a i us e g true y (ExprNode-F.Member base key) q = on_give (at {h = max 1 i} (omega arith) (r.delete e g y q))
+deleted_at ts t a i us e g _ y _ q = on_refuse
 
 unary_at : (t : Token) (ts : List Token) (o : Prefix) → prefix_of t.kind ≡ o → Then Meant s.Unary (unary_by o) (t ∷ ts) (Meant s.Unary (t ∷ ts))
-unary_at t ts prefix.Delete e = on_node (on_read (λ a i us g. deleted_at ts t a i us e g a.written refl))
+unary_at t ts prefix.Delete e = on_node (on_read (λ a i us g. deleted_at ts t a i us e g a.target refl (expr_level a.expr) refl))
 unary_at t ts prefix.Void e = on_node (on_read (λ a i us g. on_give (at {h = 1 + i} (omega arith) (r.void e g))))
 unary_at t ts prefix.Typeof e = on_node (on_read (λ a i us g. on_give (at {h = 1 + i} (omega arith) (r.typeof e g))))
 unary_at t ts (prefix.Update step) e = on_node (on_read (λ a i us g. on_either (target a)
@@ -262,12 +267,12 @@ fields so_far ts = on_peek (Meant (s.Fields so_far)) ts (λ t us. fields_at so_f
 
 names_at : (so_far : List Units) (t : Token) (us : List Token) (o : Name) → name_of t.kind ≡ o
     → Then Meant (s.Names so_far) (name_by o (λ units. go_on (as_read (s.Names (so_far ++ units ∷ [])) (λ v. v)) (give (so_far ++ units ∷ [])))) (t ∷ us) (Meant (s.Names so_far) (t ∷ us))
-names_at so_far t us (named units) q = on_eat (on_peek (λ us v h rest. Meant (s.Names so_far) (t ∷ us) v h rest) us (λ u vs. on_either (is m.Comma u)
+names_at so_far t us (ident.Named units) q = on_eat (on_peek (λ us v h rest. Meant (s.Names so_far) (t ∷ us) v h rest) us (λ u vs. on_either (is m.Comma u)
     (λ q'. on_eat (on_read (λ all j xs g. on_give
     (units ∷ g.0, g.1 ∙ append_assoc so_far (units ∷ []) g.0, (let z : j ≡ 0 = g.2 in omega arith), r.name q q' g.3))))
     (λ q'. on_give (units ∷ [], refl, refl, r.last_name q q'))))
-names_at so_far t us (out form) q = on_refuse
-names_at so_far t us no_name.other q = on_refuse
+names_at so_far t us (ident.Out form) q = on_refuse
+names_at so_far t us ident.Other q = on_refuse
 
 names : (so_far : List Units) → Row (s.Names so_far)
 names so_far ts = on_peek (Meant (s.Names so_far)) ts (λ t us. names_at so_far t us (name_of t.kind) refl)
@@ -285,9 +290,9 @@ on_parameters {n} rule ts {Q} k = expect_after m.OpenParen (λ ts. (names : List
 
 primary_at : (t : Token) (us : List Token) (o : Head) → head_of t.kind ≡ o → Then Meant s.Primary (primary_by o) (t ∷ us) (Meant s.Primary (t ∷ us))
 primary_at t us head.This q = on_node (on_give (at {h = 1} (omega arith) (r.this q)))
-primary_at t us (head.Identifier (named units)) q = on_node (on_give (at {h = 1} (omega arith) (r.identifier q)))
-primary_at t us (head.Identifier (out form)) q = on_refuse
-primary_at t us (head.Identifier no_name.other) q = on_refuse
+primary_at t us (head.Identifier (ident.Named units)) q = on_node (on_give (at {h = 1} (omega arith) (r.identifier q)))
+primary_at t us (head.Identifier (ident.Out form)) q = on_refuse
+primary_at t us (head.Identifier ident.Other) q = on_refuse
 primary_at t us (head.Constant value) q = on_node (on_give (at {h = 1} (omega arith) (r.literal q)))
 primary_at t us head.Parenthesis q = on_eat (read_expect m.CloseParen (λ a i u vs g q'. on_give (at {h = 1 + i} (omega arith) (r.parentheses q g q'))))
 primary_at t us head.Array q = on_node (on_peek (λ us v h rest. R p.Primary (t ∷ us) v (max 1 h) rest) us (λ u vs. on_either (is m.CloseBracket u)
@@ -306,11 +311,11 @@ primary_at t us head.Function q = on_node (on_peek (λ us v h rest. R p.Primary 
   where
     named_at : (t : Token) (us : List Token) (u : Token) (vs : List Token) → head_of t.kind ≡ head.Function → (o : Name) → name_of u.kind ≡ o
         → Then Meant s.Primary (name_by o (λ units. function (λ names body. give (plain (made.Function (Some units) names body))))) (u ∷ vs) (λ v h rest. R p.Primary (t ∷ u ∷ vs) v (max 1 h) rest)
-    named_at t us u vs q (named units) q' = on_eat (on_parameters (λ names. expect m.OpenBrace (read 1 (s.Elements true [] []) (λ body _. expect m.CloseBrace (give (plain (made.Function (Some units) names body)))))) vs
+    named_at t us u vs q (ident.Named units) q' = on_eat (on_parameters (λ names. expect m.OpenBrace (read 1 (s.Elements true [] []) (λ body _. expect m.CloseBrace (give (plain (made.Function (Some units) names body)))))) vs
         (λ names ws g. expect_after m.OpenBrace (R p.Parameters vs names 0) ws g (λ x xs g e1. read_expect m.CloseBrace (λ body i y ys b e2. on_give
         (at {h = 1 + i} (omega arith) (r.function_named q q' g e1 b e2))))))
-    named_at t us u vs q (out form) q' = on_refuse
-    named_at t us u vs q no_name.other q' = on_refuse
+    named_at t us u vs q (ident.Out form) q' = on_refuse
+    named_at t us u vs q ident.Other q' = on_refuse
 primary_at t us head.Many q = on_node (on_expect m.OpenParen (λ us v h rest. R p.Primary (t ∷ us) v (max 1 h) rest) us (λ u vs q'. on_given (λ all h. give (plain (made.Print all))) vs
     (λ ws g. on_give (at {h = 1 + 0} (omega arith) (r.print q q' g)))
     (λ all i ws g. on_give (at {h = 1 + i} (omega arith) (r.print q q' g)))))

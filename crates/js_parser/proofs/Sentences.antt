@@ -12,12 +12,14 @@ use Rattle.js_parser.specs.Starts as from
 use Rattle.js_tree.specs.declared.Declaration as declaration
 use Rattle.js_lexer.specs.declared.Kind.{Kind}
 use Rattle.js_lexer.specs.declared.Token.{Token}
-use Rattle.js_parser.specs.Words.{Units, Name, is, is_word, is_end, closes, stops, labels, name_of, kind_names, Start, start_of, same_mark, same_word}
+use Rattle.js_parser.specs.declared.classes.Name.{Name}
+use Rattle.js_parser.specs.declared.classes.Start.{Start}
+use Rattle.js_parser.specs.Words.{Units, is, is_word, is_end, closes, stops, labels, name_of, kind_names, start_of, same_mark, same_word}
 use Rattle.js_lexer.specs.declared.Kind.TheVariants as kind
-use Rattle.js_parser.specs.Words.Name.{named, out}
-use Rattle.js_parser.specs.Words.{Name as no_name}
-use Rattle.js_parser.specs.Words.{Start as start}
-use Rattle.js_parser.specs.Rules.{Context, Symbol, Value, Rule, Operand}
+use Rattle.js_parser.specs.declared.classes.Name.TheVariants as ident
+use Rattle.js_parser.specs.declared.classes.Start.TheVariants as start
+use Rattle.js_parser.specs.declared.classes.Operand.{Operand}
+use Rattle.js_parser.specs.Rules.{Context, Symbol, Value, Rule}
 use Rattle.js_parser.specs.Rules.{Symbol as s}
 use Rattle.js_parser.specs.Rules.Rule.{give, refuse, peek, eat, read}
 use Rattle.js_tree.specs.Trees.{case_of, catch_of, declaration_of, script_of}
@@ -106,18 +108,18 @@ on_parameters {n} rule ts {Q} k = expect_after m.OpenParen (λ ts. (names : List
 
 declaration_at : (t : Token) (us : List Token) → is_word w.Function t ≡ true → (u : Token) (vs : List Token) (o : Name) → name_of u.kind ≡ o
     → Then Both s.Declaration (name_by o (λ units. function (λ names body. give (declaration_of units names body)))) (u ∷ vs) (λ v h rest. S p.Declaration (t ∷ u ∷ vs) v (max 1 h) rest)
-declaration_at t us e u vs (named units) e' = on_eat (on_parameters (λ names. expect m.OpenBrace (read 1 (s.Elements true [] []) (λ body _. expect m.CloseBrace (give (declaration_of units names body))))) vs
+declaration_at t us e u vs (ident.Named units) e' = on_eat (on_parameters (λ names. expect m.OpenBrace (read 1 (s.Elements true [] []) (λ body _. expect m.CloseBrace (give (declaration_of units names body))))) vs
     (λ names ws g. expect_after m.OpenBrace (Reads Body part.Parameters vs names 0) ws g (λ x xs g e1. read_expect m.CloseBrace (λ body i y ys b e2. on_give
     (at {h = 1 + i} (omega arith) (q.a_declaration e e' g e1 b.0 e2))))))
-declaration_at t us e u vs (out form) e' = on_refuse
-declaration_at t us e u vs no_name.other e' = on_refuse
+declaration_at t us e u vs (ident.Out form) e' = on_refuse
+declaration_at t us e u vs ident.Other e' = on_refuse
 
 declaration_row : Row s.Declaration
 declaration_row ts = on_peek (Meant s.Declaration) ts (λ t us. on_either (is_word w.Function t)
     (λ e. on_node (on_peek (λ us v h rest. S p.Declaration (t ∷ us) v (max 1 h) rest) us (λ u vs. declaration_at t us e u vs (name_of u.kind) refl)))
     (λ e. on_refuse))
 
-decls_value : (no_in : Bool) (so_far : List decl.Variable) (t u : Token) (units : Units) (vs : List Token) → name_of t.kind ≡ named units → is m.Assign u ≡ true
+decls_value : (no_in : Bool) (so_far : List decl.Variable) (t u : Token) (units : Units) (vs : List Token) → name_of t.kind ≡ ident.Named units → is m.Assign u ≡ true
     → Then Both (s.Decls no_in so_far) (read 0 (s.Assign no_in) (λ v _. next_decl units (Some v.expr))) vs (λ v h rest. Meant (s.Decls no_in so_far) (t ∷ u ∷ vs) v h rest)
 decls_value no_in so_far t u units vs e e' = read_peek (λ a i x ws g. on_either (is m.Comma x)
     (λ e''. on_eat (on_read (λ v j xs g'. on_give
@@ -126,14 +128,14 @@ decls_value no_in so_far t u units vs e e' = read_peek (λ a i x ws g. on_either
 
 decls_at : (no_in : Bool) (so_far : List decl.Variable) (t : Token) (us : List Token) (o : Name) → name_of t.kind ≡ o
     → Then Both (s.Decls no_in so_far) (name_by o (λ units. peek (λ t. either (is m.Assign t) (eat (read 0 (s.Assign no_in) (λ v _. next_decl units (Some v.expr)))) (next_decl units None)))) (t ∷ us) (Meant (s.Decls no_in so_far) (t ∷ us))
-decls_at no_in so_far t us (named units) e = on_eat (on_peek (λ us v h rest. Meant (s.Decls no_in so_far) (t ∷ us) v h rest) us (λ u vs. on_either (is m.Assign u)
+decls_at no_in so_far t us (ident.Named units) e = on_eat (on_peek (λ us v h rest. Meant (s.Decls no_in so_far) (t ∷ us) v h rest) us (λ u vs. on_either (is m.Assign u)
     (λ e'. on_eat (decls_value no_in so_far t u units vs e e'))
     (λ e'. peek_known (on_either (is m.Comma u)
     (λ e''. on_eat (on_read (λ v j xs g'. on_give
     (decl_of units None ∷ g'.1.0, g'.1.1 ∙ append_assoc so_far (decl_of units None ∷ []) g'.1.0, at {h = j} (omega arith) (q.next_decl e e'' g'.1.2)))))
     (λ e''. on_give (decl_of units None ∷ [], refl, q.last_decl e e' e''))))))
-decls_at no_in so_far t us (out form) e = on_refuse
-decls_at no_in so_far t us no_name.other e = on_refuse
+decls_at no_in so_far t us (ident.Out form) e = on_refuse
+decls_at no_in so_far t us ident.Other e = on_refuse
 
 decls_row : (no_in : Bool) (so_far : List decl.Variable) → Row (s.Decls no_in so_far)
 decls_row no_in so_far ts = on_peek (Meant (s.Decls no_in so_far)) ts (λ t us. decls_at no_in so_far t us (name_of t.kind) refl)
@@ -285,7 +287,7 @@ for_at c t u ts start i us e e' g = for_test_at c start (t ∷ u ∷ ts) i us (�
 
 for_var_at : (c : Context) (t u v n : Token) (us : List Token) → is_word w.For t ≡ true → is m.OpenParen u ≡ true → is_word w.Var v ≡ true → (o : Name) → name_of n.kind ≡ o
     → Then Both (s.Statement c) (name_by o for_var) (n ∷ us) (λ x h rest. S (p.Statement c) (t ∷ u ∷ v ∷ n ∷ us) x (max 1 h) rest)
-for_var_at c t u v n us e e' e'' (named units) en = on_eat (on_peek (λ us x h rest. S (p.Statement c) (t ∷ u ∷ v ∷ n ∷ us) x (max 1 h) rest) us (λ o vs.
+for_var_at c t u v n us e e' e'' (ident.Named units) en = on_eat (on_peek (λ us x h rest. S (p.Statement c) (t ∷ u ∷ v ∷ n ∷ us) x (max 1 h) rest) us (λ o vs.
     on_either (is_word w.In o)
     (λ z. on_eat (read_expect m.CloseParen (λ b i x ws g z'. on_read (λ y j xs g'. on_give (at {h = 1 + max i j} (omega arith) (q.for_in_var e e' e'' en z (from_table g.0) z' g'.1))))))
     (λ z. on_either (is m.Semicolon o)
@@ -303,8 +305,8 @@ for_var_at c t u v n us e e' e'' (named units) en = on_eat (on_peek (λ us x h r
     (for_at c t u (v ∷ n ∷ o ∷ vs) (from.Var (decl_of units (Some a.expr) ∷ [])) (1 + i) ws e e' (q.first_var e'' (q.last_value en za (from_table g.0) zc) zs))))
     (λ zs. on_refuse))))))
     (λ za. on_refuse))))))
-for_var_at c t u v n us e e' e'' (out form) en = on_refuse
-for_var_at c t u v n us e e' e'' no_name.other en = on_refuse
+for_var_at c t u v n us e e' e'' (ident.Out form) en = on_refuse
+for_var_at c t u v n us e e' e'' ident.Other en = on_refuse
 
 for_first_at : (c : Context) (t u : Token) (us : List Token) → is_word w.For t ≡ true → is m.OpenParen u ≡ true
     → Then Both (s.Statement c) for_first us (λ x h rest. S (p.Statement c) (t ∷ u ∷ us) x (max 1 h) rest)
@@ -323,12 +325,12 @@ catch_at : (c : Context) (t : Token) (ts : List Token) (body : Stmt) (i : ℕ) (
     → S (p.Block c) ts body i (u ∷ v ∷ n ∷ us) → (o : Name) → name_of n.kind ≡ o
     → Then Both (s.Statement c) (name_by o (λ units. expect m.CloseParen (block c (λ inner. peek (after_try body (Some (catch_of units inner)) true))))) (n ∷ us)
     (λ x h rest. S (p.Statement c) (t ∷ ts) x (max 1 (max (1 + i) h)) rest)
-catch_at c t ts body i u v n us e e1 e2 g (named units) e3 = on_eat (expect_after m.CloseParen (λ us. S (p.Block c) ts body i (u ∷ v ∷ n ∷ us)) us g (λ x zs g e4. on_block c _ zs (λ caught j vs g'.
+catch_at c t ts body i u v n us e e1 e2 g (ident.Named units) e3 = on_eat (expect_after m.CloseParen (λ us. S (p.Block c) ts body i (u ∷ v ∷ n ∷ us)) us g (λ x zs g e4. on_block c _ zs (λ caught j vs g'.
     peek_after (S (p.Block c) zs caught j) vs g' (λ y ws g'. on_either (is_word w.Finally y)
     (λ e5. on_eat (on_block c _ ws (λ last k xs g''. on_give (at {h = 1 + max i (max j k)} (omega arith) (q.try_both e g e1 e2 e3 e4 g' (q.last e5 g''))))))
     (λ e5. on_give (at {h = 1 + max i j} (omega arith) (q.try_catch e g e1 e2 e3 e4 g' e5)))))))
-catch_at c t ts body i u v n us e e1 e2 g (out form) e3 = on_refuse
-catch_at c t ts body i u v n us e e1 e2 g no_name.other e3 = on_refuse
+catch_at c t ts body i u v n us e e1 e2 g (ident.Out form) e3 = on_refuse
+catch_at c t ts body i u v n us e e1 e2 g ident.Other e3 = on_refuse
 
 statement_at : (c : Context) (o : Start) (t : Token) (us : List Token) → Says o t → Then Both (s.Statement c) (statement_as c o) (t ∷ us) (S (p.Statement c) (t ∷ us))
 statement_at c start.Block t us e = on_read (λ x i vs g. on_give (at {h = i} (omega arith) (q.braces g.1)))

@@ -7,8 +7,8 @@ use Rattle.js_parser.specs.Words.{is_end, is, head_of, prefix_of, fault, form_at
 use Rattle.js_parser.specs.declared.Form.{Form}
 use Rattle.std.proofs.Common.{Option, Some}
 use Rattle.js_lexer.specs.declared.Kind.TheVariants as kind
-use Rattle.js_parser.specs.Words.{Head as head}
-use Rattle.js_parser.specs.Words.{Prefix as prefix}
+use Rattle.js_parser.specs.declared.classes.Head.TheVariants as head
+use Rattle.js_parser.specs.declared.classes.Prefix.TheVariants as prefix
 use Rattle.js_lexer.specs.declared.Reserved.TheVariants as w
 use Rattle.std.proofs.Common.{◌∙◌}
 use Rattle.js_parser.proofs.Tokens.{mark_no_word, mark_kind, live_mark}

@@ -8,15 +8,18 @@ use Rattle.js_tree.specs.declared.Expr as expr
 use Rattle.js_parser.specs.Exprs as made
 use Rattle.js_tree.specs.declared.Key.TheVariants as k
 use Rattle.js_lexer.specs.declared.Token.{Token}
-use Rattle.js_parser.specs.Words.{Units, is, is_word, infix_of, assign_of, prefix_of, step_of, Tail, tail_of, head_of, name_of}
-use Rattle.js_parser.specs.Words.{Prefix as prefix}
-use Rattle.js_parser.specs.Words.{Head as head}
-use Rattle.js_parser.specs.Words.{Tail as tail}
-use Rattle.js_parser.specs.Rules.{Symbol, Value, Rule, Operand}
+use Rattle.js_parser.specs.declared.classes.Tail.{Tail}
+use Rattle.js_parser.specs.Words.{Units, is, is_word, infix_of, assign_of, prefix_of, step_of, tail_of, head_of, name_of}
+use Rattle.js_parser.specs.declared.classes.Prefix.TheVariants as prefix
+use Rattle.js_parser.specs.declared.classes.Head.TheVariants as head
+use Rattle.js_parser.specs.declared.classes.Tail.TheVariants as tail
+use Rattle.js_parser.specs.declared.classes.Operand.{Operand}
+use Rattle.js_parser.specs.Rules.{Symbol, Value, Rule}
 use Rattle.js_parser.specs.Rules.{Symbol as s}
 use Rattle.js_parser.specs.Rules.Rule.{give, peek, eat, read}
 use Rattle.js_tree.specs.Trees.{field_of}
-use Rattle.js_parser.specs.Grammar.{either, expect, more_by, assign_by, target, deleted, unary_by, postfix_by, with_suffixes, given_arguments, fixed, as_read, a_member, suffixes_by, new_after, plain, field_by, name_by, parameters, primary_by, go_on, function}
+use Rattle.js_tree.specs.Trees.{expr_level}
+use Rattle.js_parser.specs.Grammar.{either, expect, more_by, assign_by, target, deleted_level, unary_by, postfix_by, with_suffixes, given_arguments, fixed, as_read, a_member, suffixes_by, new_after, plain, field_by, name_by, parameters, primary_by, go_on, function}
 use Rattle.js_parser.specs.Paths.{Path, Table}
 use Rattle.js_parser.specs.Paths.Path.{gives, peeks, eats, nodes, reads}
 use Rattle.js_parser.specs.Productions.{Part, Of, Reads, goes_on}
@@ -125,7 +128,7 @@ pub opens_begun : {ts : List Token} → (b : Bool) × Begun b ts → Opens ts
 opens_begun x = (x.1.0, x.1.1, x.1.2, x.1.5)
 
 opens_unary : {ts rest : List Token} {v : Operand} {h : ℕ} → Reads Body p.Unary ts v h rest → Opens ts
-opens_unary (r.delete {ts = us} {t = t} q g e) = (t, us, refl, opening_prefix t _ q (λ z. cc))
+opens_unary (r.delete {ts = us} {t = t} q g e e1) = (t, us, refl, opening_prefix t _ q (λ z. cc))
 opens_unary (r.void {ts = us} {t = t} q g) = (t, us, refl, opening_prefix t _ q (λ z. cc))
 opens_unary (r.typeof {ts = us} {t = t} q g) = (t, us, refl, opening_prefix t _ q (λ z. cc))
 opens_unary (r.signed {ts = us} {t = t} q g) = (t, us, refl, opening_prefix t _ q (λ z. cc))
@@ -307,7 +310,7 @@ into (r.operator {no_in = no_in} {level = level} {t = c} {a = a} {h = h} {i = j}
     (into g x (max (h + 1) (max (1 + j) (max (0 + i) 0))) rest (built (peeks (by (more_by no_in (suc level) a h) e (nodes (live_infix no_in (suc level) c op e) (reads (into g') (reads (more_height {h = 1 + max h j} (omega arith) t) gives)))))))
 into (r.binary {no_in = no_in} {level = level} {us = us} {t = t} {a = a} {h = h} g e) = table_at {h = max h 0} (omega arith) (into g a 0 (t ∷ us) (built (peeks (by (more_by no_in (suc level) a h) e gives))))
 into (r.unary {h = h} g) = table_at {h = max (0 + h) 0} (omega arith) (built (reads (into g) gives))
-into (r.delete {t = t} {h = h} e g q) = table_at {h = max 1 (max (0 + h) 0)} (omega arith) (built (peeks (by unary_by e (nodes (live_prefix t _ e (λ z. cc)) (reads (into g) (by deleted q gives))))))
+into (r.delete {t = t} {a = a} {h = h} e g y q) = table_at {h = max 1 (max (0 + h) 0)} (omega arith) (built (peeks (by unary_by e (nodes (live_prefix t _ e (λ z. cc)) (reads (into g) (by (λ x. deleted_level x (expr_level a.expr)) y (by (λ x. deleted_level true x) q gives)))))))
 into (r.void {t = t} {h = h} e g) = table_at {h = max 1 (max (1 + h) 0)} (omega arith) (built (peeks (by unary_by e (nodes (live_prefix t _ e (λ z. cc)) (reads (into g) gives)))))
 into (r.typeof {t = t} {h = h} e g) = table_at {h = max 1 (max (1 + h) 0)} (omega arith) (built (peeks (by unary_by e (nodes (live_prefix t _ e (λ z. cc)) (reads (into g) gives)))))
 into (r.signed {t = t} {h = h} e g) = table_at {h = max 1 (max (1 + h) 0)} (omega arith) (built (peeks (by unary_by e (nodes (live_prefix t _ e (λ z. cc)) (reads (into g) gives)))))

@@ -7,20 +7,20 @@ use Rattle.js_lexer.specs.declared.Reserved.TheVariants as w
 use Rattle.js_tree.specs.declared.BinaryOperator.{BinaryOperator}
 use Rattle.js_lexer.specs.declared.Kind.{Kind}
 use Rattle.js_lexer.specs.declared.Token.{Token}
-use Rattle.js_parser.specs.Words.{Units, is, is_word, is_end, kind_is, kind_is_word, kind_ends, same_mark, same_word, prefix_of, head_of, tail_of, step_of, infix_of, infix_at, infix_by, Infix, assign_of, key_of, literal_key_of, name_of, stops, kind_stops, start_of, kind_names, when, same_number, level_of}
-use Rattle.js_parser.specs.Words.{Start as start}
-use Rattle.js_parser.specs.Words.{Infix as between}
+use Rattle.js_parser.specs.declared.classes.Infix.{Infix}
+use Rattle.js_parser.specs.Words.{Units, is, is_word, is_end, kind_is, kind_is_word, kind_ends, same_mark, same_word, prefix_of, head_of, tail_of, step_of, infix_of, infix_at, infix_by, assign_of, key_of, literal_key_of, name_of, stops, kind_stops, start_of, kind_names, when, same_number, level_of}
+use Rattle.js_parser.specs.declared.classes.Start.TheVariants as start
+use Rattle.js_parser.specs.declared.classes.Infix.TheVariants as between
 use Rattle.js_tree.specs.declared.BinaryOperator.TheVariants as op
 use Rattle.js_lexer.specs.contracts.Mark as the_mark
 use Rattle.js_lexer.specs.contracts.Reserved as the_reserved
 use denote.Enum.Bare.{same_true}
 use Rattle.std.proofs.Common.{◌&&◌}
 use Rattle.js_lexer.specs.declared.Kind.TheVariants as kind
-use Rattle.js_parser.specs.Words.Name.{named}
-use Rattle.js_parser.specs.Words.{Name as no_name}
-use Rattle.js_parser.specs.Words.{Head as head}
-use Rattle.js_parser.specs.Words.{Prefix as prefix}
-use Rattle.js_parser.specs.Words.{Tail as tail}
+use Rattle.js_parser.specs.declared.classes.Name.TheVariants as ident
+use Rattle.js_parser.specs.declared.classes.Head.TheVariants as head
+use Rattle.js_parser.specs.declared.classes.Prefix.TheVariants as prefix
+use Rattle.js_parser.specs.declared.classes.Tail.TheVariants as tail
 
 -- what is said of the end is said of no other token
 live_by : {A : Type 0} (f : Kind → A) (x : A) → (f kind.End ≡ x → ⊥) → (k : Kind) → f k ≡ x → kind_ends k ≡ false
@@ -63,7 +63,7 @@ end_literal_key : literal_key_of kind.End ≡ None
 unfolding literal_key_of
 end_literal_key = refl
 
-end_name : name_of kind.End ≡ no_name.other
+end_name : name_of kind.End ≡ ident.Other
 unfolding name_of
 end_name = refl
 
@@ -91,8 +91,8 @@ live_key t x e = live t (live_by key_of (Some x) (λ q. not_some x (sym end_key 
 pub live_literal_key : (t : Token) (x : _) → literal_key_of t.kind ≡ Some x → is_end t ≡ false
 live_literal_key t x e = live t (live_by literal_key_of (Some x) (λ q. not_some x (sym end_literal_key ∙ q)) t.kind e)
 
-pub live_name : (t : Token) (x : Units) → name_of t.kind ≡ named x → is_end t ≡ false
-live_name t x e = live t (live_by name_of (named x) (λ q. let z = sym end_name ∙ q in cc) t.kind e)
+pub live_name : (t : Token) (x : Units) → name_of t.kind ≡ ident.Named x → is_end t ≡ false
+live_name t x e = live t (live_by name_of (ident.Named x) (λ q. let z = sym end_name ∙ q in cc) t.kind e)
 
 some_infix : (no_in : Bool) (level : ℕ) (o : Option Infix) (x : Infix) → o ≡ None → infix_by no_in level o ≡ Some x → ⊥
 some_infix no_in level (Some y) x e q = not_some y (sym e)
@@ -180,12 +180,12 @@ unfolding infix_at
 no_infix no_in level t e = infix_none no_in level (infix_of t.kind) e
 
 -- a name is no punctuator
-named_kind : (x : Mark) (k : Kind) (u : Units) → name_of k ≡ named u → kind_is x k ≡ false
+named_kind : (x : Mark) (k : Kind) (u : Units) → name_of k ≡ ident.Named u → kind_is x k ≡ false
 unfolding name_of
 named_kind x (kind.Word units) u e = refl
 named_kind x _ u e = absurd (let z = e in cc)
 
-pub name_no_mark : (x : Mark) (t : Token) (u : Units) → name_of t.kind ≡ named u → is x t ≡ false
+pub name_no_mark : (x : Mark) (t : Token) (u : Units) → name_of t.kind ≡ ident.Named u → is x t ≡ false
 unfolding is
 name_no_mark x t u e = named_kind x t.kind u e
 
@@ -282,12 +282,12 @@ pub mark_stops : (x : Mark) (t : Token) → kind_stops (kind.Mark x) ≡ false �
 unfolding stops
 mark_stops x t f e = ap kind_stops (mark_kind x t e) ∙ f
 
-named_no_word : (v : Reserved) (k : Kind) (u : Units) → name_of k ≡ named u → kind_is_word v k ≡ false
+named_no_word : (v : Reserved) (k : Kind) (u : Units) → name_of k ≡ ident.Named u → kind_is_word v k ≡ false
 unfolding name_of
 named_no_word v (kind.Word units) u e = refl
 named_no_word v _ u e = absurd (let z = e in cc)
 
-pub name_no_word : (v : Reserved) (t : Token) (u : Units) → name_of t.kind ≡ named u → is_word v t ≡ false
+pub name_no_word : (v : Reserved) (t : Token) (u : Units) → name_of t.kind ≡ ident.Named u → is_word v t ≡ false
 unfolding is_word
 name_no_word v t u e = named_no_word v t.kind u e
 

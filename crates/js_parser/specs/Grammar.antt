@@ -27,37 +27,40 @@ use Rattle.js_parser.specs.Stmts as s
 use Rattle.js_tree.specs.declared.Declaration as declaration
 use Rattle.js_tree.specs.declared.Script as script
 use Rattle.js_lexer.specs.declared.Token.{Token}
-use Rattle.js_parser.specs.Words.{Units, Name, is, is_word, is_end, closes, stops, labels, name_of, key_of, literal_key_of, Start, start_of, Head, head_of, Prefix, prefix_of, Tail, tail_of, step_of, Infix, infix_at, assign_of}
-use Rattle.js_parser.specs.Words.Name.{named, out}
-use Rattle.js_parser.specs.Words.{Name as no_name}
-use Rattle.js_parser.specs.Words.{Start as start}
-use Rattle.js_parser.specs.Words.{Head as head}
-use Rattle.js_parser.specs.Words.{Prefix as prefix}
-use Rattle.js_parser.specs.Words.{Tail as tail}
-use Rattle.js_parser.specs.Words.{Infix as between}
+use Rattle.js_parser.specs.declared.classes.Name.{Name}
+use Rattle.js_parser.specs.declared.classes.Start.{Start}
+use Rattle.js_parser.specs.declared.classes.Head.{Head}
+use Rattle.js_parser.specs.declared.classes.Prefix.{Prefix}
+use Rattle.js_parser.specs.declared.classes.Tail.{Tail}
+use Rattle.js_parser.specs.declared.classes.Infix.{Infix}
+use Rattle.js_parser.specs.Words.{Units, is, is_word, is_end, closes, stops, labels, name_of, key_of, literal_key_of, start_of, head_of, prefix_of, tail_of, step_of, infix_at, assign_of}
+use Rattle.js_parser.specs.declared.classes.Name.TheVariants as ident
+use Rattle.js_parser.specs.declared.classes.Start.TheVariants as start
+use Rattle.js_parser.specs.declared.classes.Head.TheVariants as head
+use Rattle.js_parser.specs.declared.classes.Prefix.TheVariants as prefix
+use Rattle.js_parser.specs.declared.classes.Tail.TheVariants as tail
+use Rattle.js_parser.specs.declared.classes.Infix.TheVariants as between
 use Rattle.js_tree.specs.Trees.{unbound, ExprLevel, expr_level, field_of, variable_of, case_of, catch_of, declaration_of, script_of}
 use Rattle.js_tree.specs.declared.ExprNode.TheOpen.{ExprNode-F}
-use Rattle.js_parser.specs.Rules.{Context, Written, Operand, Symbol, Value, Rule}
-use Rattle.js_parser.specs.Rules.Written.{as_name, as_member, otherwise}
+use Rattle.js_parser.specs.declared.classes.Operand.{Operand}
+use Rattle.js_parser.specs.Rules.{Context, Symbol, Value, Rule}
 use Rattle.js_parser.specs.Rules.Symbol.{Script, Elements, Declaration, Names, Statements, Statement, Block, Decls, Clauses, Expr, Commas, Assign, Conditional, Binary, More, Unary, Postfix, Left, Suffixes, New, Arguments, Items, Fields, Primary}
 use Rattle.js_parser.specs.Rules.Rule.{give, refuse, peek, eat, node, stand, read}
 
 -- ---- values
 
 abbrev pub plain : expr.Expr → Operand
-plain expr = record { expr = expr; written = otherwise }
+plain expr = record { expr = expr; target = false }
 
 abbrev pub a_member : expr.Expr → key.Key → Operand
-a_member base key = record { expr = e.Member base key; written = as_member base key }
+a_member base key = record { expr = e.Member base key; target = true }
 
-abbrev pub is_target : Written → Bool
-is_target as_name = true
-is_target (as_member base key) = true
-is_target otherwise = false
+abbrev pub a_name_as : Units → Operand
+a_name_as units = record { expr = e.Name units; target = true }
 
 -- a target is a name or a member as written
 abbrev pub target : Operand → Bool
-target v = is_target v.written
+target v = v.target
 
 abbrev pub decl_of : Units → Option expr.Expr → declared.Variable
 decl_of name value = variable_of (unbound name) value
@@ -76,9 +79,9 @@ abbrev pub expect_word : {n : Symbol} → Reserved → Rule n → Rule n
 expect_word word rule = peek (λ t. either (is_word word t) (eat rule) (refuse None))
 
 abbrev pub name_by : {n : Symbol} → Name → (Units → Rule n) → Rule n
-name_by (named units) rule = eat (rule units)
-name_by (out form) rule = refuse (Some form)
-name_by no_name.other rule = refuse None
+name_by (ident.Named units) rule = eat (rule units)
+name_by (ident.Out form) rule = refuse (Some form)
+name_by ident.Other rule = refuse None
 
 -- a name comes next
 abbrev pub a_name : {n : Symbol} → (Units → Rule n) → Rule n
@@ -308,14 +311,17 @@ more_by no_in level left height (Some op) = node (height + 1) (read 1 (Binary no
     as_read (More no_in level (plain (joined op left.expr right.expr)) (max (height + 1) (h + 1))) (λ v. v)))
 more_by no_in level left height None = give left
 
-abbrev pub deleted : Written → Rule Unary
-deleted (as_member base key) = give (plain (e.Delete base key))
-deleted as_name = refuse (Some form.Delete)
-deleted otherwise = refuse (Some form.Delete)
+-- The member that is deleted is one node with `delete`.
+abbrev pub deleted_level : (target : Bool) → ExprLevel → Rule Unary
+deleted_level true (ExprNode-F.Member base key) = give (plain (e.Delete base key))
+deleted_level _ _ = refuse (Some form.Delete)
+
+abbrev pub deleted : Operand → Rule Unary
+deleted v = deleted_level v.target (expr_level v.expr)
 
 abbrev pub unary_by : Prefix → Rule Unary
 -- The operand of `delete` and `delete` are one node.
-unary_by prefix.Delete = node 1 (read 0 Unary (λ v _. deleted v.written))
+unary_by prefix.Delete = node 1 (read 0 Unary (λ v _. deleted v))
 unary_by prefix.Void = node 1 (read 1 Unary (λ v _. give (plain (e.Void v.expr))))
 unary_by prefix.Typeof = node 1 (read 1 Unary (λ v _. give (plain (e.Typeof v.expr))))
 unary_by (prefix.Update step) = node 1 (read 1 Left (λ v _. either (target v) (give (plain (e.Update v.expr step side.Prefix))) (refuse None)))
@@ -371,9 +377,9 @@ called_alone _ = e.Crash
 
 abbrev pub primary_by : Head → Rule Primary
 primary_by head.This = node 1 (give (plain e.This))
-primary_by (head.Identifier (named units)) = node 1 (give (record { expr = e.Name units; written = as_name }))
-primary_by (head.Identifier (out form)) = refuse (Some form)
-primary_by (head.Identifier no_name.other) = refuse None
+primary_by (head.Identifier (ident.Named units)) = node 1 (give (a_name_as units))
+primary_by (head.Identifier (ident.Out form)) = refuse (Some form)
+primary_by (head.Identifier ident.Other) = refuse None
 primary_by (head.Constant value) = node 1 (give (plain (e.Literal value)))
 primary_by head.Parenthesis = eat (read 1 (Expr false) (λ v _. expect m.CloseParen (give (plain v.expr))))
 primary_by head.Array = node 1 (peek (λ t. either (is m.CloseBracket t) (eat (give (plain (e.Array []))))

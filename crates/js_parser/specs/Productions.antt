@@ -15,15 +15,18 @@ use Rattle.js_tree.specs.declared.Expr as expr
 use Rattle.js_parser.specs.Exprs as e
 use Rattle.js_tree.specs.declared.Script as script
 use Rattle.js_lexer.specs.declared.Token.{Token}
-use Rattle.js_parser.specs.Words.{Units, is, is_word, name_of, key_of, literal_key_of, head_of, prefix_of, tail_of, step_of, infix_at, assign_of, Infix, Tail}
-use Rattle.js_parser.specs.Words.Name.{named}
-use Rattle.js_parser.specs.Words.{Head as head}
-use Rattle.js_parser.specs.Words.{Prefix as prefix}
-use Rattle.js_parser.specs.Words.{Tail as tail}
-use Rattle.js_parser.specs.Rules.{Operand}
-use Rattle.js_parser.specs.Rules.Written.{as_name, as_member}
+use Rattle.js_parser.specs.declared.classes.Infix.{Infix}
+use Rattle.js_parser.specs.declared.classes.Tail.{Tail}
+use Rattle.js_parser.specs.Words.{Units, is, is_word, name_of, key_of, literal_key_of, head_of, prefix_of, tail_of, step_of, infix_at, assign_of}
+use Rattle.js_parser.specs.declared.classes.Name.TheVariants as ident
+use Rattle.js_parser.specs.declared.classes.Head.TheVariants as head
+use Rattle.js_parser.specs.declared.classes.Prefix.TheVariants as prefix
+use Rattle.js_parser.specs.declared.classes.Tail.TheVariants as tail
+use Rattle.js_parser.specs.declared.classes.Operand.{Operand}
 use Rattle.js_tree.specs.Trees.{field_of}
-use Rattle.js_parser.specs.Grammar.{plain, a_member, target, joined, called, called_alone}
+use Rattle.js_tree.specs.Trees.{expr_level}
+use Rattle.js_tree.specs.declared.ExprNode.TheOpen.{ExprNode-F}
+use Rattle.js_parser.specs.Grammar.{plain, a_member, a_name_as, target, joined, called, called_alone}
 
 pub data Part : Type 0 where
   Expr Commas Assign Conditional : (no_in : Bool) → Part
@@ -97,7 +100,7 @@ pub data Reads (Body : List Token → script.Script → ℕ → List Token → T
   -- Unary : an operator and Unary | Postfix
   -- A `delete` and the member that it deletes are one node.
   delete : {ts rest : List Token} {t : Token} {a : Operand} {h : ℕ} {base : expr.Expr} {key : key.Key}
-      → prefix_of t.kind ≡ prefix.Delete → Reads Body Unary ts a h rest → a.written ≡ as_member base key
+      → prefix_of t.kind ≡ prefix.Delete → Reads Body Unary ts a h rest → a.target ≡ true → expr_level a.expr ≡ ExprNode-F.Member base key
       → Reads Body Unary (t ∷ ts) (plain (e.Delete base key)) (max 1 h) rest
   void : {ts rest : List Token} {t : Token} {a : Operand} {h : ℕ}
       → prefix_of t.kind ≡ prefix.Void → Reads Body Unary ts a h rest → Reads Body Unary (t ∷ ts) (plain (e.Void a.expr)) (1 + h) rest
@@ -159,16 +162,16 @@ pub data Reads (Body : List Token → script.Script → ℕ → List Token → T
       → Reads Body Fields (t ∷ u ∷ ts) (field_of key a.expr ∷ all) (max h i) rest
   -- Ids
   last_name : {us : List Token} {t u : Token} {units : Units}
-      → name_of t.kind ≡ named units → is m.Comma u ≡ false → Reads Body Names (t ∷ u ∷ us) (units ∷ []) 0 (u ∷ us)
+      → name_of t.kind ≡ ident.Named units → is m.Comma u ≡ false → Reads Body Names (t ∷ u ∷ us) (units ∷ []) 0 (u ∷ us)
   name : {us rest : List Token} {t u : Token} {units : Units} {all : List Units}
-      → name_of t.kind ≡ named units → is m.Comma u ≡ true → Reads Body Names us all 0 rest → Reads Body Names (t ∷ u ∷ us) (units ∷ all) 0 rest
+      → name_of t.kind ≡ ident.Named units → is m.Comma u ≡ true → Reads Body Names us all 0 rest → Reads Body Names (t ∷ u ∷ us) (units ∷ all) 0 rest
   no_parameters : {rest : List Token} {t u : Token} → is m.OpenParen t ≡ true → is m.CloseParen u ≡ true → Reads Body Parameters (t ∷ u ∷ rest) [] 0 rest
   parameters : {ts rest : List Token} {t u : Token} {all : List Units}
       → is m.OpenParen t ≡ true → Reads Body Names ts all 0 (u ∷ rest) → is m.CloseParen u ≡ true → Reads Body Parameters (t ∷ ts) all 0 rest
   -- Primary
   this : {rest : List Token} {t : Token} → head_of t.kind ≡ head.This → Reads Body Primary (t ∷ rest) (plain e.This) 1 rest
   identifier : {rest : List Token} {t : Token} {units : Units}
-      → head_of t.kind ≡ head.Identifier (named units) → Reads Body Primary (t ∷ rest) (record { expr = e.Name units; written = as_name }) 1 rest
+      → head_of t.kind ≡ head.Identifier (ident.Named units) → Reads Body Primary (t ∷ rest) (a_name_as units) 1 rest
   literal : {rest : List Token} {t : Token} {value : Literal} → head_of t.kind ≡ head.Constant value → Reads Body Primary (t ∷ rest) (plain (e.Literal value)) 1 rest
   parentheses : {ts rest : List Token} {t u : Token} {a : Operand} {h : ℕ}
       → head_of t.kind ≡ head.Parenthesis → Reads Body (Expr false) ts a h (u ∷ rest) → is m.CloseParen u ≡ true → Reads Body Primary (t ∷ ts) (plain a.expr) (1 + h) rest
@@ -189,6 +192,6 @@ pub data Reads (Body : List Token → script.Script → ℕ → List Token → T
       → head_of t.kind ≡ head.Function → Reads Body Parameters ts names 0 (u ∷ us) → is m.OpenBrace u ≡ true → Body us body h (v ∷ rest) → is m.CloseBrace v ≡ true
       → Reads Body Primary (t ∷ ts) (plain (e.Function None names body)) (1 + h) rest
   function_named : {ts us rest : List Token} {t n u v : Token} {units : Units} {names : List Units} {body : script.Script} {h : ℕ}
-      → head_of t.kind ≡ head.Function → name_of n.kind ≡ named units → Reads Body Parameters ts names 0 (u ∷ us) → is m.OpenBrace u ≡ true
+      → head_of t.kind ≡ head.Function → name_of n.kind ≡ ident.Named units → Reads Body Parameters ts names 0 (u ∷ us) → is m.OpenBrace u ≡ true
       → Body us body h (v ∷ rest) → is m.CloseBrace v ≡ true
       → Reads Body Primary (t ∷ n ∷ ts) (plain (e.Function (Some units) names body)) (1 + h) rest

@@ -12,21 +12,12 @@ use Rattle.js_tree.specs.declared.Case as clause
 use Rattle.js_tree.specs.declared.Field as field
 use Rattle.js_lexer.specs.declared.Token.{Token}
 use Rattle.js_tree.specs.Lawful.{Around}
+use Rattle.js_parser.specs.declared.classes.Operand.{Operand}
 use Rattle.js_parser.specs.Words.{Units}
 
 -- what stands round a statement, up to the innermost function: a function, a loop, a switch
 abbrev pub Context : Type 0
 Context = Around
-
--- what an expression is as written, with no parentheses round it
-pub data Written : Type 0 where
-  as_name : Written
-  as_member : (base : expr.Expr) (key : key.Key) → Written
-  otherwise : Written
-
-pub record Operand : Type 0 where
-  pub expr : expr.Expr
-  pub written : Written
 
 -- A symbol may carry what stands to its left, as a left operand with its height, or the items so far.
 pub data Symbol : Type 0 where

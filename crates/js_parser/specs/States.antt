@@ -15,8 +15,9 @@ use Rattle.js_tree.specs.declared.Declaration as declaration
 use Rattle.js_tree.specs.declared.Script as script
 use Rattle.js_lexer.specs.declared.Token.{Token}
 use Rattle.js_parser.specs.Words.{Units, is, is_word, is_end, closes, stops, labels, name_of, kind_names}
-use Rattle.js_parser.specs.Words.Name.{named}
-use Rattle.js_parser.specs.Rules.{Context, Operand}
+use Rattle.js_parser.specs.declared.classes.Name.TheVariants as ident
+use Rattle.js_parser.specs.declared.classes.Operand.{Operand}
+use Rattle.js_parser.specs.Rules.{Context}
 use Rattle.js_tree.specs.Trees.{case_of, catch_of, declaration_of, script_of}
 use Rattle.js_parser.specs.Grammar.{target, decl_of, loop, switch, outer, is_name}
 use Rattle.js_parser.specs.Productions.{Reads}
@@ -73,7 +74,7 @@ pub data States (Body : List Token → script.Script → ℕ → List Token → 
       → States Body (Statement (outer f)) ts x h us → States Body (Elements f) us all i rest → States Body (Elements f) ts (all.0, x ∷ all.1) (max h i) rest
   -- function Id ( Ids? ) { Element* }
   a_declaration : {ts us rest : List Token} {t n u v : Token} {units : Units} {names : List Units} {body : script.Script} {h : ℕ}
-      → is_word w.Function t ≡ true → name_of n.kind ≡ named units → Reads Body part.Parameters ts names 0 (u ∷ us) → is m.OpenBrace u ≡ true
+      → is_word w.Function t ≡ true → name_of n.kind ≡ ident.Named units → Reads Body part.Parameters ts names 0 (u ∷ us) → is m.OpenBrace u ≡ true
       → Body us body h (v ∷ rest) → is m.CloseBrace v ≡ true
       → States Body Declaration (t ∷ n ∷ ts) (declaration_of units names body) (1 + h) rest
   -- Statement*
@@ -87,14 +88,14 @@ pub data States (Body : List Token → script.Script → ℕ → List Token → 
       → is m.OpenParen t ≡ true → Reads Body (part.Expr false) ts a h (u ∷ rest) → is m.CloseParen u ≡ true → States Body Condition (t ∷ ts) a.expr h rest
   -- Decl (, Decl)*
   last_decl : {no_in : Bool} {us : List Token} {t u : Token} {units : Units}
-      → name_of t.kind ≡ named units → is m.Assign u ≡ false → is m.Comma u ≡ false → States Body (Decls no_in) (t ∷ u ∷ us) (decl_of units None ∷ []) 0 (u ∷ us)
+      → name_of t.kind ≡ ident.Named units → is m.Assign u ≡ false → is m.Comma u ≡ false → States Body (Decls no_in) (t ∷ u ∷ us) (decl_of units None ∷ []) 0 (u ∷ us)
   next_decl : {no_in : Bool} {us rest : List Token} {t u : Token} {units : Units} {all : List decl.Variable} {h : ℕ}
-      → name_of t.kind ≡ named units → is m.Comma u ≡ true → States Body (Decls no_in) us all h rest → States Body (Decls no_in) (t ∷ u ∷ us) (decl_of units None ∷ all) h rest
+      → name_of t.kind ≡ ident.Named units → is m.Comma u ≡ true → States Body (Decls no_in) us all h rest → States Body (Decls no_in) (t ∷ u ∷ us) (decl_of units None ∷ all) h rest
   last_value : {no_in : Bool} {ts us : List Token} {t u v : Token} {units : Units} {a : Operand} {h : ℕ}
-      → name_of t.kind ≡ named units → is m.Assign u ≡ true → Reads Body (part.Assign no_in) ts a h (v ∷ us) → is m.Comma v ≡ false
+      → name_of t.kind ≡ ident.Named units → is m.Assign u ≡ true → Reads Body (part.Assign no_in) ts a h (v ∷ us) → is m.Comma v ≡ false
       → States Body (Decls no_in) (t ∷ u ∷ ts) (decl_of units (Some a.expr) ∷ []) h (v ∷ us)
   value : {no_in : Bool} {ts us rest : List Token} {t u v : Token} {units : Units} {a : Operand} {all : List decl.Variable} {h i : ℕ}
-      → name_of t.kind ≡ named units → is m.Assign u ≡ true → Reads Body (part.Assign no_in) ts a h (v ∷ us) → is m.Comma v ≡ true → States Body (Decls no_in) us all i rest
+      → name_of t.kind ≡ ident.Named units → is m.Assign u ≡ true → Reads Body (part.Assign no_in) ts a h (v ∷ us) → is m.Comma v ≡ true → States Body (Decls no_in) us all i rest
       → States Body (Decls no_in) (t ∷ u ∷ ts) (decl_of units (Some a.expr) ∷ all) (max h i) rest
   -- Statement
   braces : {c : Context} {ts rest : List Token} {x : Stmt} {h : ℕ} → States Body (Block c) ts x h rest → States Body (Statement c) ts x h rest
@@ -133,7 +134,7 @@ pub data States (Body : List Token → script.Script → ℕ → List Token → 
       → Reads Body (part.Expr false) us b i (x ∷ vs) → is m.CloseParen x ≡ true → States Body (Statement (loop c)) vs y j rest
       → States Body (Statement c) (t ∷ u ∷ ts) (s.ForIn (over.Target a.expr) b.expr y) (1 + max h (max i j)) rest
   for_in_var : {c : Context} {us vs rest : List Token} {t u v n o x : Token} {units : Units} {b : Operand} {y : Stmt} {i j : ℕ}
-      → is_word w.For t ≡ true → is m.OpenParen u ≡ true → is_word w.Var v ≡ true → name_of n.kind ≡ named units → is_word w.In o ≡ true
+      → is_word w.For t ≡ true → is m.OpenParen u ≡ true → is_word w.Var v ≡ true → name_of n.kind ≡ ident.Named units → is_word w.In o ≡ true
       → Reads Body (part.Expr false) us b i (x ∷ vs) → is m.CloseParen x ≡ true → States Body (Statement (loop c)) vs y j rest
       → States Body (Statement c) (t ∷ u ∷ v ∷ n ∷ o ∷ us) (s.ForIn (over.Var units) b.expr y) (1 + max i j) rest
   continue : {c : Context} {us rest : List Token} {t u : Token}
@@ -162,11 +163,11 @@ pub data States (Body : List Token → script.Script → ℕ → List Token → 
   last : {c : Context} {ts rest : List Token} {t : Token} {all : Stmt} {h : ℕ}
       → is_word w.Finally t ≡ true → States Body (Block c) ts all h rest → States Body (Finally c) (t ∷ ts) all h rest
   try_catch : {c : Context} {ts us ws : List Token} {t u v n x y : Token} {units : Units} {body caught : Stmt} {h i : ℕ}
-      → is_word w.Try t ≡ true → States Body (Block c) ts body h (u ∷ v ∷ n ∷ x ∷ us) → is_word w.Catch u ≡ true → is m.OpenParen v ≡ true → name_of n.kind ≡ named units → is m.CloseParen x ≡ true
+      → is_word w.Try t ≡ true → States Body (Block c) ts body h (u ∷ v ∷ n ∷ x ∷ us) → is_word w.Catch u ≡ true → is m.OpenParen v ≡ true → name_of n.kind ≡ ident.Named units → is m.CloseParen x ≡ true
       → States Body (Block c) us caught i (y ∷ ws) → is_word w.Finally y ≡ false
       → States Body (Statement c) (t ∷ ts) (s.Try body (Some (catch_of units caught)) None) (1 + max h i) (y ∷ ws)
   try_both : {c : Context} {ts us vs rest : List Token} {t u v n x : Token} {units : Units} {body caught ended : Stmt} {h i j : ℕ}
-      → is_word w.Try t ≡ true → States Body (Block c) ts body h (u ∷ v ∷ n ∷ x ∷ us) → is_word w.Catch u ≡ true → is m.OpenParen v ≡ true → name_of n.kind ≡ named units → is m.CloseParen x ≡ true
+      → is_word w.Try t ≡ true → States Body (Block c) ts body h (u ∷ v ∷ n ∷ x ∷ us) → is_word w.Catch u ≡ true → is m.OpenParen v ≡ true → name_of n.kind ≡ ident.Named units → is m.CloseParen x ≡ true
       → States Body (Block c) us caught i vs → States Body (Finally c) vs ended j rest
       → States Body (Statement c) (t ∷ ts) (s.Try body (Some (catch_of units caught)) (Some ended)) (1 + max h (max i j)) rest
   try_finally : {c : Context} {ts us rest : List Token} {t : Token} {body ended : Stmt} {h j : ℕ}

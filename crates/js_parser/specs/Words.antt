@@ -19,6 +19,18 @@ use Rattle.js_parser.specs.declared.Form.TheVariants as form
 use Rattle.js_parser.specs.declared.stop.Stop.{Stop}
 use Rattle.js_parser.specs.declared.stop.Stop.TheVariants as stop
 use Rattle.js_tree.specs.declared.BinaryOperator.{BinaryOperator}
+use Rattle.js_parser.specs.declared.classes.Start.{Start}
+use Rattle.js_parser.specs.declared.classes.Start.TheVariants as start
+use Rattle.js_parser.specs.declared.classes.Head.{Head}
+use Rattle.js_parser.specs.declared.classes.Head.TheVariants as head
+use Rattle.js_parser.specs.declared.classes.Prefix.{Prefix}
+use Rattle.js_parser.specs.declared.classes.Prefix.TheVariants as prefix
+use Rattle.js_parser.specs.declared.classes.Tail.{Tail}
+use Rattle.js_parser.specs.declared.classes.Tail.TheVariants as tail
+use Rattle.js_parser.specs.declared.classes.Infix.{Infix}
+use Rattle.js_parser.specs.declared.classes.Infix.TheVariants as between
+use Rattle.js_parser.specs.declared.classes.Name.{Name}
+use Rattle.js_parser.specs.declared.classes.Name.TheVariants as ident
 use Rattle.js_tree.specs.declared.BinaryOperator.TheVariants as op
 use Rattle.js_tree.specs.declared.UnaryOperator.{UnaryOperator}
 use Rattle.js_tree.specs.declared.UnaryOperator.TheVariants as sign
@@ -107,21 +119,13 @@ forbidden_by false false = None
 unfoldable pub forbidden : Units → Option Form
 forbidden units = forbidden_by (same_units units eval_word) (same_units units arguments_word)
 
-pub data Name : Type 0 where
-  -- a name stands here
-  named : Units → Name
-  -- a name that is left out stands here
-  out : Form → Name
-  -- the token is no identifier
-  other : Name
-
 abbrev pub name_by : Option Form → Units → Name
-name_by (Some form) units = out form
-name_by None units = named units
+name_by (Some x) units = ident.Out x
+name_by None units = ident.Named units
 
 unfoldable pub name_of : Kind → Name
 name_of (kind.Word units) = name_by (forbidden units) units
-name_of _ = other
+name_of _ = ident.Other
 
 -- a key after a dot
 unfoldable pub key_of : Kind → Option Units
@@ -148,101 +152,75 @@ labels token = kind_names token.kind && not token.after_newline
 -- ---- statements
 
 -- what a statement is that begins so
-pub data Start : Type 0 where
-  Block Var Empty If Do While For Continue Break Return Throw Switch Try : Start
-  -- an expression that begins with an identifier, with a parenthesis, or otherwise
-  Identifier Parenthesis Expression : Start
-  Neither : Start
-
 unfoldable pub start_of : Kind → Start
-start_of (kind.Mark m.OpenBrace) = Block
-start_of (kind.Mark m.Semicolon) = Empty
-start_of (kind.Mark m.OpenParen) = Parenthesis
-start_of (kind.Reserved w.Var) = Var
-start_of (kind.Reserved w.If) = If
-start_of (kind.Reserved w.Do) = Do
-start_of (kind.Reserved w.While) = While
-start_of (kind.Reserved w.For) = For
-start_of (kind.Reserved w.Continue) = Continue
-start_of (kind.Reserved w.Break) = Break
-start_of (kind.Reserved w.Return) = Return
-start_of (kind.Reserved w.Throw) = Throw
-start_of (kind.Reserved w.Switch) = Switch
-start_of (kind.Reserved w.Try) = Try
-start_of (kind.Reserved w.Function) = Neither
-start_of (kind.Word units) = Identifier
-start_of _ = Expression
+start_of (kind.Mark m.OpenBrace) = start.Block
+start_of (kind.Mark m.Semicolon) = start.Empty
+start_of (kind.Mark m.OpenParen) = start.Parenthesis
+start_of (kind.Reserved w.Var) = start.Var
+start_of (kind.Reserved w.If) = start.If
+start_of (kind.Reserved w.Do) = start.Do
+start_of (kind.Reserved w.While) = start.While
+start_of (kind.Reserved w.For) = start.For
+start_of (kind.Reserved w.Continue) = start.Continue
+start_of (kind.Reserved w.Break) = start.Break
+start_of (kind.Reserved w.Return) = start.Return
+start_of (kind.Reserved w.Throw) = start.Throw
+start_of (kind.Reserved w.Switch) = start.Switch
+start_of (kind.Reserved w.Try) = start.Try
+start_of (kind.Reserved w.Function) = start.Neither
+start_of (kind.Word units) = start.Identifier
+start_of _ = start.Expression
 
 -- ---- expressions
 
--- what an operand is that begins so
-pub data Head : Type 0 where
-  This : Head
-  Identifier : Name → Head
-  Constant : Literal → Head
-  Array Object Parenthesis Function : Head
-  -- a script call with any arguments, one, or none
-  Many : Head
-  One : CallWord → Head
-  Zero : CallWord → Head
-  RegExp Neither : Head
-
 abbrev pub call_head : CallWord → Head
-call_head c.Print = Many
-call_head c.Join = Zero c.Join
-call_head c.Crash = Zero c.Crash
-call_head c.Once = One c.Once
-call_head c.Fork = One c.Fork
-call_head c.Post = One c.Post
-call_head c.Reply = One c.Reply
-call_head c.Prompt = One c.Prompt
-call_head c.Random = One c.Random
+call_head c.Print = head.Many
+call_head c.Join = head.Zero c.Join
+call_head c.Crash = head.Zero c.Crash
+call_head c.Once = head.One c.Once
+call_head c.Fork = head.One c.Fork
+call_head c.Post = head.One c.Post
+call_head c.Reply = head.One c.Reply
+call_head c.Prompt = head.One c.Prompt
+call_head c.Random = head.One c.Random
 
+-- what an operand is that begins so
 unfoldable pub head_of : Kind → Head
-head_of (kind.Reserved w.This) = This
-head_of (kind.Reserved w.Null) = Constant literal.Null
-head_of (kind.Reserved w.True) = Constant (literal.Truth true)
-head_of (kind.Reserved w.False) = Constant (literal.Truth false)
-head_of (kind.Reserved w.Function) = Function
-head_of (kind.Word units) = Identifier (name_by (forbidden units) units)
-head_of (kind.Number value) = Constant (literal.Number value)
-head_of (kind.Text units) = Constant (literal.Text units)
+head_of (kind.Reserved w.This) = head.This
+head_of (kind.Reserved w.Null) = head.Constant literal.Null
+head_of (kind.Reserved w.True) = head.Constant (literal.Truth true)
+head_of (kind.Reserved w.False) = head.Constant (literal.Truth false)
+head_of (kind.Reserved w.Function) = head.Function
+head_of (kind.Word units) = head.Identifier (name_by (forbidden units) units)
+head_of (kind.Number value) = head.Constant (literal.Number value)
+head_of (kind.Text units) = head.Constant (literal.Text units)
 head_of (kind.Call c) = call_head c
-head_of (kind.Mark m.OpenBracket) = Array
-head_of (kind.Mark m.OpenBrace) = Object
-head_of (kind.Mark m.OpenParen) = Parenthesis
-head_of (kind.Mark m.Slash) = RegExp
-head_of (kind.Mark m.AssignSlash) = RegExp
-head_of _ = Neither
+head_of (kind.Mark m.OpenBracket) = head.Array
+head_of (kind.Mark m.OpenBrace) = head.Object
+head_of (kind.Mark m.OpenParen) = head.Parenthesis
+head_of (kind.Mark m.Slash) = head.RegExp
+head_of (kind.Mark m.AssignSlash) = head.RegExp
+head_of _ = head.Neither
 
 -- what an expression begins with
-pub data Prefix : Type 0 where
-  Delete Void Typeof : Prefix
-  Update : Sign → Prefix
-  Signed : UnaryOperator → Prefix
-  Neither : Prefix
-
 unfoldable pub prefix_of : Kind → Prefix
-prefix_of (kind.Reserved w.Delete) = Delete
-prefix_of (kind.Reserved w.Void) = Void
-prefix_of (kind.Reserved w.Typeof) = Typeof
-prefix_of (kind.Mark m.PlusPlus) = Update step.Plus
-prefix_of (kind.Mark m.MinusMinus) = Update step.Minus
-prefix_of (kind.Mark m.Plus) = Signed sign.Plus
-prefix_of (kind.Mark m.Minus) = Signed sign.Minus
-prefix_of (kind.Mark m.BitNot) = Signed sign.BitNot
-prefix_of (kind.Mark m.Not) = Signed sign.Not
-prefix_of _ = Neither
+prefix_of (kind.Reserved w.Delete) = prefix.Delete
+prefix_of (kind.Reserved w.Void) = prefix.Void
+prefix_of (kind.Reserved w.Typeof) = prefix.Typeof
+prefix_of (kind.Mark m.PlusPlus) = prefix.Update step.Plus
+prefix_of (kind.Mark m.MinusMinus) = prefix.Update step.Minus
+prefix_of (kind.Mark m.Plus) = prefix.Signed sign.Plus
+prefix_of (kind.Mark m.Minus) = prefix.Signed sign.Minus
+prefix_of (kind.Mark m.BitNot) = prefix.Signed sign.BitNot
+prefix_of (kind.Mark m.Not) = prefix.Signed sign.Not
+prefix_of _ = prefix.Neither
 
 -- what stands after an operand
-pub data Tail : Type 0 where
-  Computed Fixed Call Neither : Tail
-
 unfoldable pub tail_of : Kind → Tail
-tail_of (kind.Mark m.OpenBracket) = Computed
-tail_of (kind.Mark m.Dot) = Fixed
-tail_of (kind.Mark m.OpenParen) = Call
-tail_of _ = Neither
+tail_of (kind.Mark m.OpenBracket) = tail.Computed
+tail_of (kind.Mark m.Dot) = tail.Fixed
+tail_of (kind.Mark m.OpenParen) = tail.Call
+tail_of _ = tail.Neither
 
 unfoldable pub step_of : Kind → Option Sign
 step_of (kind.Mark m.PlusPlus) = Some step.Plus
@@ -250,64 +228,60 @@ step_of (kind.Mark m.MinusMinus) = Some step.Minus
 step_of _ = None
 
 -- an operator between two operands
-pub data Infix : Type 0 where
-  Plain : BinaryOperator → Infix
-  And Or : Infix
-
 unfoldable pub infix_of : Kind → Option Infix
-infix_of (kind.Mark m.Star) = Some (Plain op.Multiply)
-infix_of (kind.Mark m.Slash) = Some (Plain op.Divide)
-infix_of (kind.Mark m.Percent) = Some (Plain op.Remainder)
-infix_of (kind.Mark m.Plus) = Some (Plain op.Add)
-infix_of (kind.Mark m.Minus) = Some (Plain op.Subtract)
-infix_of (kind.Mark m.ShiftLeft) = Some (Plain op.ShiftLeft)
-infix_of (kind.Mark m.ShiftRight) = Some (Plain op.ShiftRight)
-infix_of (kind.Mark m.ShiftRightZero) = Some (Plain op.ShiftRightZero)
-infix_of (kind.Mark m.Less) = Some (Plain op.Less)
-infix_of (kind.Mark m.Greater) = Some (Plain op.Greater)
-infix_of (kind.Mark m.LessEqual) = Some (Plain op.LessOrEqual)
-infix_of (kind.Mark m.GreaterEqual) = Some (Plain op.GreaterOrEqual)
-infix_of (kind.Mark m.Equal) = Some (Plain op.Equal)
-infix_of (kind.Mark m.NotEqual) = Some (Plain op.NotEqual)
-infix_of (kind.Mark m.Same) = Some (Plain op.Same)
-infix_of (kind.Mark m.NotSame) = Some (Plain op.NotSame)
-infix_of (kind.Mark m.BitAnd) = Some (Plain op.BitAnd)
-infix_of (kind.Mark m.BitXor) = Some (Plain op.BitXor)
-infix_of (kind.Mark m.BitOr) = Some (Plain op.BitOr)
-infix_of (kind.Reserved w.Instanceof) = Some (Plain op.InstanceOf)
-infix_of (kind.Reserved w.In) = Some (Plain op.In)
-infix_of (kind.Mark m.And) = Some And
-infix_of (kind.Mark m.Or) = Some Or
+infix_of (kind.Mark m.Star) = Some (between.Plain op.Multiply)
+infix_of (kind.Mark m.Slash) = Some (between.Plain op.Divide)
+infix_of (kind.Mark m.Percent) = Some (between.Plain op.Remainder)
+infix_of (kind.Mark m.Plus) = Some (between.Plain op.Add)
+infix_of (kind.Mark m.Minus) = Some (between.Plain op.Subtract)
+infix_of (kind.Mark m.ShiftLeft) = Some (between.Plain op.ShiftLeft)
+infix_of (kind.Mark m.ShiftRight) = Some (between.Plain op.ShiftRight)
+infix_of (kind.Mark m.ShiftRightZero) = Some (between.Plain op.ShiftRightZero)
+infix_of (kind.Mark m.Less) = Some (between.Plain op.Less)
+infix_of (kind.Mark m.Greater) = Some (between.Plain op.Greater)
+infix_of (kind.Mark m.LessEqual) = Some (between.Plain op.LessOrEqual)
+infix_of (kind.Mark m.GreaterEqual) = Some (between.Plain op.GreaterOrEqual)
+infix_of (kind.Mark m.Equal) = Some (between.Plain op.Equal)
+infix_of (kind.Mark m.NotEqual) = Some (between.Plain op.NotEqual)
+infix_of (kind.Mark m.Same) = Some (between.Plain op.Same)
+infix_of (kind.Mark m.NotSame) = Some (between.Plain op.NotSame)
+infix_of (kind.Mark m.BitAnd) = Some (between.Plain op.BitAnd)
+infix_of (kind.Mark m.BitXor) = Some (between.Plain op.BitXor)
+infix_of (kind.Mark m.BitOr) = Some (between.Plain op.BitOr)
+infix_of (kind.Reserved w.Instanceof) = Some (between.Plain op.InstanceOf)
+infix_of (kind.Reserved w.In) = Some (between.Plain op.In)
+infix_of (kind.Mark m.And) = Some between.And
+infix_of (kind.Mark m.Or) = Some between.Or
 infix_of _ = None
 
 -- the levels of binary operators, from 1, the tightest
 unfoldable pub level_of : Infix → ℕ
-level_of (Plain op.Multiply) = 1
-level_of (Plain op.Divide) = 1
-level_of (Plain op.Remainder) = 1
-level_of (Plain op.Add) = 2
-level_of (Plain op.Subtract) = 2
-level_of (Plain op.ShiftLeft) = 3
-level_of (Plain op.ShiftRight) = 3
-level_of (Plain op.ShiftRightZero) = 3
-level_of (Plain op.Less) = 4
-level_of (Plain op.Greater) = 4
-level_of (Plain op.LessOrEqual) = 4
-level_of (Plain op.GreaterOrEqual) = 4
-level_of (Plain op.InstanceOf) = 4
-level_of (Plain op.In) = 4
-level_of (Plain op.Equal) = 5
-level_of (Plain op.NotEqual) = 5
-level_of (Plain op.Same) = 5
-level_of (Plain op.NotSame) = 5
-level_of (Plain op.BitAnd) = 6
-level_of (Plain op.BitXor) = 7
-level_of (Plain op.BitOr) = 8
-level_of And = 9
-level_of Or = 10
+level_of (between.Plain op.Multiply) = 1
+level_of (between.Plain op.Divide) = 1
+level_of (between.Plain op.Remainder) = 1
+level_of (between.Plain op.Add) = 2
+level_of (between.Plain op.Subtract) = 2
+level_of (between.Plain op.ShiftLeft) = 3
+level_of (between.Plain op.ShiftRight) = 3
+level_of (between.Plain op.ShiftRightZero) = 3
+level_of (between.Plain op.Less) = 4
+level_of (between.Plain op.Greater) = 4
+level_of (between.Plain op.LessOrEqual) = 4
+level_of (between.Plain op.GreaterOrEqual) = 4
+level_of (between.Plain op.InstanceOf) = 4
+level_of (between.Plain op.In) = 4
+level_of (between.Plain op.Equal) = 5
+level_of (between.Plain op.NotEqual) = 5
+level_of (between.Plain op.Same) = 5
+level_of (between.Plain op.NotSame) = 5
+level_of (between.Plain op.BitAnd) = 6
+level_of (between.Plain op.BitXor) = 7
+level_of (between.Plain op.BitOr) = 8
+level_of between.And = 9
+level_of between.Or = 10
 
 abbrev pub is_in : Infix → Bool
-is_in (Plain op.In) = true
+is_in (between.Plain op.In) = true
 is_in _ = false
 
 abbrev pub when : {A : Type 0} → Bool → A → Option A

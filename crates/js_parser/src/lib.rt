@@ -1,6 +1,7 @@
 //! The parser: the tree that the tokens of a script are, or why they are none.
 #![tactic(auto)]
 
+pub mod classes;
 pub mod laws;
 pub mod stop;
 
