@@ -1,2 +1,15 @@
-pub mod Trees
+pub mod Calls
+pub mod Eval
+pub mod Expressions
 pub mod Lawful
+pub mod Open
+pub mod Operate
+pub mod Pieces
+pub mod Report
+pub mod Rows
+pub mod Run
+pub mod ScriptCalls
+pub mod Statements
+pub mod Table
+pub mod Trees
+pub mod World

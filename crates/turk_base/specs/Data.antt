@@ -148,6 +148,7 @@ mutual
 
 mutual
   unfolding code_data code_items code_fields back_data back_items back_fields plain_of by_tag
+
   pub back_code_data : (d : Data) → back_data (code_data d) ≡ d
   back_code_data DUndefined = refl
   back_code_data DNull = refl

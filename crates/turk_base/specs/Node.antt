@@ -1,9 +1,7 @@
 -- The plain data that a node stands for, one level of it, and the condition on its keys.
-use Rattle.std.specs.Prelude.{ℕ, ◌+◌, ◌≤◌, max, List, [], ◌∷◌, ⊤}
+use Rattle.std.specs.Prelude.{⊤}
 use Rattle.std.specs.Map.{keys_of}
-use Rattle.std.proofs.Common.{arith}
-use denote.Param.Weighed.{most}
-use Rattle.turk_base.specs.Data.{Data, DUndefined, DNull, DTruth, DNumber, DText, DList, DFields, items_of, fields_of, IsDistinctKeys, size, size_items, size_fields}
+use Rattle.turk_base.specs.Data.{Data, DUndefined, DNull, DTruth, DNumber, DText, DList, DFields, items_of, fields_of, IsDistinctKeys}
 use Rattle.turk_base.specs.declared.Node.{Node}
 use Rattle.turk_base.specs.declared.Node.TheVariants as node
 

@@ -1,8 +1,8 @@
 -- What operators give, of values alone (ECMA-262 3rd ed. 11.4 to 11.9), with exact whole numbers in place of doubles.
-use Rattle.std.specs.Prelude.{ℕ, zero, ◌-◌, ◌*◌, ◌%◌, ◌/◌, ◌^◌, Bool, true, false, not, ◌&&◌, ◌||◌, ◌==◌, nat_lt, [], ◌∷◌, ℤ, pos, negsuc, ◌+ℤ◌, ◌-ℤ◌, ◌*ℤ◌, neg_ℤ, int_lt, int_le, int_div, int_rem, bit_and, bit_or, bit_xor, Option, Some, None, Result, Ok, Err, if◌then◌else◌}
+use Rattle.std.specs.Prelude.{ℕ, zero, ◌-◌, ◌*◌, ◌%◌, ◌/◌, ◌^◌, Bool, true, false, not, ◌&&◌, ◌||◌, ◌==◌, nat_lt, [], ◌∷◌, ℤ, pos, negsuc, ◌+ℤ◌, ◌-ℤ◌, ◌*ℤ◌, int_lt, int_le, int_div, int_rem, bit_and, bit_or, bit_xor, Option, Some, None, Result, Ok, Err, if◌then◌else◌}
 use Rattle.turk_base.specs.Names.{Units, Name, name_eq, pick}
 use Rattle.turk_base.specs.Values.{Val, Undefined, Null, Truth, Number, Text, Object, Refusal, NotWhole}
-use Rattle.turk_base.specs.Conversions.{same_units, Reading, Is, Nan, Outside, reading, in_range, whole_or_none, number_in, integer_in, unsigned_32, signed_32, to_int32}
+use Rattle.turk_base.specs.Conversions.{same_units, Reading, Is, Outside, reading, whole_or_none, number_in, integer_in, unsigned_32, signed_32, to_int32}
 
 abbrev pub same_integer : ℤ → ℤ → Bool
 same_integer (pos m) (pos n) = m == n

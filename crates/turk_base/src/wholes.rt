@@ -1,5 +1,5 @@
 //! The calls of Whole.
-ghost use Rattle.std.specs.Prelude.{◌≡◌};
+ghost use Rattle.std.specs.Prelude.{◌≡◌, neg_ℤ, pos};
 ghost use Rattle.turk_base.specs.Whole.{whole_or_none, IsWhole};
 
 use crate::Whole;
@@ -24,5 +24,30 @@ impl Whole {
         ensures range { IsWhole result }
     {
         self.number
+    }
+
+    /// The number with its sign turned; 0 stays 0.
+    pub fn negated(self) -> Whole
+        ensures { result ≡ neg_ℤ self }
+    {
+        let number = self.number;
+        Whole { number: -number }
+    }
+
+    /// A number that is known to be in range.
+    pub fn make(number: i64) -> Whole
+        requires { IsWhole number }
+        ensures { result ≡ number }
+    {
+        Whole { number }
+    }
+
+    /// A number of 32 bits without sign.
+    pub fn from_u32(number: u32) -> Whole
+        ensures { result ≡ pos number }
+    {
+        Whole {
+            number: number as i64,
+        }
     }
 }
