@@ -1,5 +1,5 @@
 -- Which tokens are which: the classes of tokens that exclude one another.
-use Rattle.std.proofs.Common.{◌≡◌, ℕ, Bool, true, false, Option, Some, None, refl, ap, sym, ◌∙◌, ◌⊎◌, inl, inr}
+use Rattle.std.proofs.Common.{◌≡◌, ℕ, nat_eq, Bool, true, false, Option, Some, None, refl, ap, sym, ◌∙◌, ◌⊎◌, inl, inr}
 use Rattle.js_lexer.specs.declared.Mark.{Mark}
 use Rattle.js_lexer.specs.declared.Mark.TheVariants as m
 use Rattle.js_lexer.specs.declared.Reserved.{Reserved}
@@ -8,7 +8,7 @@ use Rattle.js_tree.specs.declared.BinaryOperator.{BinaryOperator}
 use Rattle.js_lexer.specs.declared.Kind.{Kind}
 use Rattle.js_lexer.specs.declared.Token.{Token}
 use Rattle.js_parser.specs.declared.classes.Infix.{Infix}
-use Rattle.js_parser.specs.Words.{Units, is, is_word, is_end, kind_is, kind_is_word, kind_ends, same_mark, same_word, prefix_of, head_of, tail_of, step_of, infix_of, infix_at, infix_by, assign_of, key_of, literal_key_of, name_of, stops, kind_stops, start_of, kind_names, when, same_number, level_of}
+use Rattle.js_parser.specs.Words.{Units, is, is_word, is_end, kind_is, kind_is_word, kind_ends, same_mark, same_word, prefix_of, head_of, tail_of, step_of, infix_of, infix_at, infix_by, assign_of, key_of, literal_key_of, name_of, stops, kind_stops, start_of, kind_names, when, level_of}
 use Rattle.js_parser.specs.declared.classes.Start.TheVariants as start
 use Rattle.js_parser.specs.declared.classes.Infix.TheVariants as between
 use Rattle.js_tree.specs.declared.BinaryOperator.TheVariants as op
@@ -320,7 +320,7 @@ when_false false x = refl
 
 in_none : (level : ℕ) → infix_by true level (infix_of (kind.Reserved w.In)) ≡ None
 unfolding infix_of
-in_none level = when_false (same_number (level_of (between.Plain op.In)) level) (between.Plain op.In)
+in_none level = when_false (nat_eq (level_of (between.Plain op.In)) level) (between.Plain op.In)
 
 -- `in` is no operator where it isn't allowed
 pub in_alone : (level : ℕ) (t : Token) → is_word w.In t ≡ true → infix_at true level t ≡ None

@@ -1,5 +1,6 @@
 -- What a token is to the grammar, and what it may begin or go on with.
-use Rattle.std.specs.Prelude.{ℕ, zero, suc, Bool, true, false, not, ◌||◌, ◌&&◌, Option, Some, None, List, [], ◌∷◌}
+use Rattle.std.specs.Prelude.{ℕ, Bool, true, false, not, ◌||◌, ◌&&◌, Option, Some, None, List, nat_eq, codes}
+use Rattle.std.specs.Cmp.Lexicographic.{pointwise}
 use Rattle.std.specs.Fmt.{signed_decimal}
 use denote.Enum.Bare.{sameb}
 use Rattle.js_lexer.specs.contracts.Mark as the_mark
@@ -92,23 +93,11 @@ stops token = kind_stops token.kind
 -- ---- names
 
 -- `eval` and `arguments`
-unfoldable pub eval_word : Units
-eval_word = 101 ∷ 118 ∷ 97 ∷ 108 ∷ []
+abbrev pub eval_word : Units
+eval_word = codes "eval"
 
-unfoldable pub arguments_word : Units
-arguments_word = 97 ∷ 114 ∷ 103 ∷ 117 ∷ 109 ∷ 101 ∷ 110 ∷ 116 ∷ 115 ∷ []
-
-abbrev pub same_number : ℕ → ℕ → Bool
-same_number zero zero = true
-same_number zero (suc b) = false
-same_number (suc a) zero = false
-same_number (suc a) (suc b) = same_number a b
-
-abbrev pub same_units : Units → Units → Bool
-same_units [] [] = true
-same_units [] (b ∷ y) = false
-same_units (a ∷ x) [] = false
-same_units (a ∷ x) (b ∷ y) = same_number a b && same_units x y
+abbrev pub arguments_word : Units
+arguments_word = codes "arguments"
 
 abbrev pub forbidden_by : Bool → Bool → Option Form
 forbidden_by true second = Some form.Eval
@@ -117,7 +106,7 @@ forbidden_by false false = None
 
 -- the left-out form that a name would be
 unfoldable pub forbidden : Units → Option Form
-forbidden units = forbidden_by (same_units units eval_word) (same_units units arguments_word)
+forbidden units = forbidden_by (pointwise nat_eq units eval_word) (pointwise nat_eq units arguments_word)
 
 abbrev pub name_by : Option Form → Units → Name
 name_by (Some x) units = ident.Out x
@@ -289,7 +278,7 @@ when true a = Some a
 when false a = None
 
 abbrev pub infix_by : (no_in : Bool) (level : ℕ) → Option Infix → Option Infix
-infix_by no_in level (Some op) = when (same_number (level_of op) level && not (no_in && is_in op)) op
+infix_by no_in level (Some op) = when (nat_eq (level_of op) level && not (no_in && is_in op)) op
 infix_by no_in level None = None
 
 -- the operator of a level that a token is; where `in` doesn't stand, it is none

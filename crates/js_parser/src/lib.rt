@@ -2,6 +2,7 @@
 #![tactic(auto)]
 
 pub mod classes;
+mod classify;
 pub mod laws;
 pub mod stop;
 
