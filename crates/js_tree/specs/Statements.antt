@@ -21,6 +21,7 @@ use Rattle.js_tree.specs.Calls.{Code, list}
 use Rattle.js_tree.specs.Expressions.{eval, place}
 
 module _ (table : List Code) (expr : Here → Expr → Prog) (stmt : Here → Stmt → Prog) where
+  -- 12.1
   unfoldable pub block_row : Here → List Stmt → Prog
   block_row here ss = list table stmt here ss
 

@@ -1,5 +1,5 @@
 -- What is asked of the outside, the records that keep the answers, replies, and tokens.
-use Rattle.std.specs.Prelude.{ℤ, List, Bool, true, false, Option, Some, None, if◌then◌else◌, decimal, codes}
+use Rattle.std.specs.Prelude.{ℤ, List, Bool, true, false, Option, Some, None, if◌then◌else◌, decimal}
 use Rattle.std.proofs.Common.{◌≡◌, [], ◌∷◌, ◌++◌}
 use Rattle.turk_base.specs.Names.{Path, root, sub, Under, Units, pick, path_eq, under, units_eq}
 use Rattle.turk_base.specs.declared.Record.{Record}
@@ -44,12 +44,12 @@ answer ((u, x) ∷ l) t = pick (units_eq u t) (Some x) (answer l t)
 
 -- ---- tokens
 
--- the indexes in decimal, joined by `.`
+-- the indexes in decimal, joined by `.` (46)
 abbrev pub written : Path → Units
 written root = []
 written (sub i root) = decimal i
-written (sub i (sub j p)) = written (sub j p) ++ codes "." ++ decimal i
+written (sub i (sub j p)) = written (sub j p) ++ (46 ∷ decimal i)
 
--- the name of the session, `/` and the path
+-- the name of the session, `/` (47) and the path
 abbrev pub token : Units → Path → Units
-token session p = session ++ codes "/" ++ written p
+token session p = session ++ (47 ∷ written p)

@@ -4,6 +4,7 @@ pub mod Cells
 pub mod Conversions
 pub mod Data
 pub mod DataFalls
+pub mod Encodings
 pub mod Errors
 pub mod Names
 pub mod Node
@@ -14,5 +15,6 @@ pub mod Start
 pub mod State
 pub mod Steps
 pub mod Told
+pub mod Trace
 pub mod Values
 pub mod Whole

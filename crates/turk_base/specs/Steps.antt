@@ -3,7 +3,7 @@
 use Rattle.std.specs.Prelude.{ℕ, List, Bool, true, false, Option, Some, None, ◌==◌, ◌&&◌, nat_lt, length, if◌then◌else◌, ℤ, pos, negsuc, Result, Ok, Err, codes, decimal}
 use Rattle.std.proofs.Common.{suc, zero, [], ◌∷◌, ◌++◌}
 use Rattle.turk_base.specs.Names.{Units, Name, pick, units_eq, name_eq}
-use Rattle.turk_base.specs.Values.{Val, Undefined, Null, Truth, Number, Text, Object, Kind, Frame, Plain, Array, Function, BuiltIn, Known, Refusal, TooLong, NotData}
+use Rattle.turk_base.specs.Values.{Val, Undefined, Null, Truth, Number, Text, Object, Kind, Frame, Plain, Array, Function, BuiltIn, Refusal, TooLong, NotData}
 use Rattle.turk_base.specs.Values.{Data, DUndefined, DNull, DTruth, DNumber, DText, DList, DFields, Items, NoItems, Item, Fields, NoFields, Field}
 use Rattle.turk_base.specs.Conversions.{number_in}
 use Rattle.turk_base.specs.Asks.{Question, posts, replies, draws, AnsOf}
@@ -11,6 +11,7 @@ use Rattle.turk_base.specs.Prog.{Prim, Pay, KindOf, Make, Inherits, Get, Put, Re
 use Rattle.turk_base.specs.Cells.{Edit, look, put, remove, list, trim, grow, KeyClass, index, past, named, class_of, length_key}
 use Rattle.turk_base.specs.State.{Op, charge, known_at, make, change, print, join, forks_here, crash, AnswerTo}
 
+-- A small program: steps on the state, and asks of the outside.
 pub data Small (A : Type 0) : Type 0 where
   give : (a : A) → Small A
   refuse : (why : Refusal) → Small A
@@ -25,9 +26,11 @@ bind lost k = lost
 bind (step o go) k = step o (λ a. bind (go a) k)
 bind (ask q go) k = ask q (λ a. bind (go a) k)
 
+-- a charge is paid first
 abbrev pub pays : {A : Type 0} → ℕ → Small A → Small A
 pays n p = step (charge n) (λ _. p)
 
+-- one access of a cell's properties; what it creates is paid
 abbrev pub edit : {A : Type 0} → (c : Name) → (e : Edit) → (AnswerTo (change true c e) → Small A) → Small A
 edit c e k = step (change true c e) k
 
@@ -37,7 +40,7 @@ abbrev pub or_else : Option Val → Small (Option Val) → Small (Option Val)
 or_else (Some v) rest = give (Some v)
 or_else None rest = rest
 
--- the key looked up in cell after cell
+-- the key looked up in cell after cell (ECMA-262 3rd ed. 8.6.2.1)
 abbrev pub get_in : List Name → Units → Small (Option Val)
 get_in [] key = give None
 get_in (c ∷ cs) key = edit c (look key) (λ o. or_else o (get_in cs key))
@@ -45,10 +48,11 @@ get_in (c ∷ cs) key = edit c (look key) (λ o. or_else o (get_in cs key))
 abbrev pub get : Name → Units → Small (Option Val)
 get c key = step (known_at c) (λ k. get_in (c ∷ k.chain) key)
 
+-- the own key set, or created last (8.6.2.2)
 abbrev pub put_key : Name → Units → Val → Small (Unit {0})
 put_key c key v = edit c (put key v) give
 
--- the length z is set: elements at or past it go, from the highest down
+-- the length z is set (15.4.5.1; at most 1,000,000, own rule): elements at or past it go, from the highest down
 abbrev pub set_length : Name → Option ℕ → Small (Unit {0})
 set_length c (Some z) = if nat_lt 1000000 z then refuse TooLong else edit c (trim z) (λ _. put_key c length_key (Number (pos z)))
 set_length c None = refuse TooLong
@@ -57,10 +61,12 @@ abbrev pub natural : ℤ → Option ℕ
 natural (pos n) = Some n
 natural (negsuc n) = None
 
+-- the length is set to the number of a value
 abbrev pub length_from : Name → Result ℤ Refusal → Small (Unit {0})
 length_from c (Ok z) = set_length c (natural z)
 length_from c (Err why) = refuse why
 
+-- an element: where the index is at or past the length, the length is set to one more; past the greatest index it is refused
 abbrev pub put_element : Name → Units → Val → KeyClass → Small (Unit {0})
 put_element c key v (index i) = edit c (put key v) (λ _. edit c (grow i) give)
 put_element c key v past = refuse TooLong
@@ -76,6 +82,7 @@ put_in (BuiltIn w) c key v = put_key c key v
 abbrev pub prototype_key : Units
 prototype_key = codes "prototype"
 
+-- the own key deleted (8.6.2.5)
 abbrev pub drop_it : Name → Units → Small Bool
 drop_it c key = edit c (remove key) (λ _. give true)
 
@@ -104,12 +111,10 @@ without_length (Plain p) ks = ks
 without_length (Function n f) ks = ks
 without_length (BuiltIn w) ks = ks
 
+-- the keys of cell after cell, each once; each cell's shape is touched, and `length` of an array is not listed
 abbrev pub keys_in : List Units → List Name → Small (List Units)
 keys_in had [] = give had
-keys_in had (c ∷ cs) = edit c list (λ ks. keys_in (add_keys had ks) cs)
-
-abbrev pub listed : Name → Known → Small (List Units)
-listed c k = edit c list (λ ks. keys_in (without_length k.kind ks) k.chain)
+keys_in had (c ∷ cs) = step (known_at c) (λ k. edit c list (λ ks. keys_in (add_keys had (without_length k.kind ks)) cs))
 
 abbrev pub there : Option Val → Small Val
 there (Some v) = give v
@@ -211,7 +216,7 @@ steps_of (Inherits c from) = step (known_at c) (λ k. give (stands_in from k.cha
 steps_of (Get c key) = get c key
 steps_of (Put c key v) = step (known_at c) (λ k. put_in k.kind c key v)
 steps_of (Remove c key) = step (known_at c) (λ k. remove_in k.kind c key)
-steps_of (Keys c) = step (known_at c) (λ k. listed c k)
+steps_of (Keys c) = step (known_at c) (λ k. keys_in [] (c ∷ k.chain))
 steps_of (ReadName f name) = edit f (look name) there
 steps_of (WriteName f name v) = put_key f name v
 steps_of (Declare f name v) = put_key f name v

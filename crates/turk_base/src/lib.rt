@@ -13,12 +13,17 @@ use std::hash::{Hash, Hasher};
 use std::marker::Model;
 
 mod byte_lists;
+mod encodings;
 mod names;
 mod paths;
+mod records;
 mod reply_lists;
 mod texts;
+mod tokens;
 mod trees;
 mod wholes;
+
+pub use tokens::token;
 
 /// Want of memory.
 #[derive(Clone, Copy, Debug, Drop, PartialEq, Eq)]

@@ -1,5 +1,6 @@
 //! The calls of Path.
 ghost use Rattle.std.specs.Prelude.{◌≡◌, [], ◌∷◌, ◌++◌, length, IfOk, OnErr};
+ghost use Rattle.turk_base.specs.Trace.{begins};
 
 use crate::{NoMemory, Path};
 use std::alloc::Global;
@@ -96,5 +97,12 @@ impl Path {
         let mut child = self.copy(alloc)?;
         child.push(index)?;
         Ok(child)
+    }
+
+    /// Whether the other path begins with this one; each path begins with itself.
+    pub fn begins(&self, other: &Path) -> bool
+        ensures { result ≡ begins self.now other.now }
+    {
+        other.items.as_slice().starts_with(self.items.as_slice())
     }
 }

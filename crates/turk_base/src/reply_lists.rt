@@ -1,5 +1,7 @@
 //! The calls of Replies.
 ghost use Rattle.std.specs.Prelude.{◌≡◌, [], ◌∷◌, ◌++◌, length, IfOk, OnErr};
+ghost use Rattle.std.specs.Option.{option_copied};
+ghost use Rattle.turk_base.specs.Trace.{answer};
 
 use crate::{NoMemory, Replies, Units};
 use std::alloc::Global;
@@ -38,4 +40,22 @@ impl Replies {
             Err(_) => Err(NoMemory),
         }
     }
+
+    /// The text of the first reply with this token, None exactly where there is none.
+    pub fn find(&self, token: &Units) -> Option<&Units>
+        ensures { option_copied result ≡ answer self.now token.now }
+    {
+        find_in(self.items.as_slice(), token)
+    }
+}
+
+fn find_in<'a>(replies: &'a [(Units, Units)], token: &Units) -> Option<&'a Units>
+    ensures { option_copied result ≡ answer replies.now token.now }
+{
+    for reply in replies {
+        if reply.0 == *token {
+            return Some(&reply.1);
+        }
+    }
+    None
 }

@@ -88,4 +88,23 @@ impl Units {
     {
         Units::from_slice(alloc, self.as_slice())
     }
+
+    /// A text of as many units as there are bytes, each with the byte's number: the text itself where the bytes are ASCII.
+    pub fn from_bytes(alloc: Global, bytes: &[u8]) -> Result<Units, NoMemory>
+        ensures { IfOk result (λ made. made ≡ bytes.now) }
+    {
+        let mut units = Units::new(alloc);
+        units.push_bytes(bytes)?;
+        Ok(units)
+    }
+
+    /// Adds as many units as there are bytes, each with the byte's number. After a refusal some of them are added.
+    pub fn push_bytes(&mut self, bytes: &[u8]) -> Result<(), NoMemory>
+        ensures ok { IfOk result (λ _. self.new ≡ self.old ++ bytes.now) }
+    {
+        for byte in bytes {
+            self.push(*byte as u16)?;
+        }
+        Ok(())
+    }
 }

@@ -6,9 +6,8 @@ pub mod bits;
 ghost use Rattle.std.specs.Prelude.{◌≡◌, neg_ℤ};
 ghost use Rattle.turk_base.specs.Operators.{total, difference, product, quotient, remainder};
 
-use turk_base::Whole;
-
 pub use bits::{and, not, or, shl, shr, ushr, xor};
+use turk_base::Whole;
 
 /// `a + b`, None exactly where it is out of range.
 pub fn add(a: Whole, b: Whole) -> Option<Whole>
@@ -59,11 +58,7 @@ pub fn rem(a: Whole, b: Whole) -> Option<Whole>
 {
     let x = a.get();
     let y = b.get();
-    if y == 0 {
-        None
-    } else {
-        Whole::new(x % y)
-    }
+    if y == 0 { None } else { Whole::new(x % y) }
 }
 
 /// `-a`, with `-0` being 0.

@@ -1,0 +1,4 @@
+pub mod Disk
+pub mod Images
+pub mod Memory
+pub mod Kept

@@ -1,0 +1,5 @@
+pub mod Rises
+pub mod Calm
+pub mod Apart
+pub mod Parts
+pub mod Whole

@@ -1,0 +1,7 @@
+use mathlib.Core.Path.{refl}
+use Rattle.meaning_laws.specs.Opens.{opens}
+use Rattle.meaning_laws.proofs.once_no_data.Goals as goal
+
+pub returns : goal.returns
+unfolding opens
+returns c = (refl, refl, refl)

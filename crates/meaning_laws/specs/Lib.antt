@@ -1,0 +1,8 @@
+pub mod Laws
+pub mod Objects
+pub mod Opens
+pub mod Operations
+pub mod Says
+pub mod Scopes
+pub mod Statements
+pub mod Words

@@ -1,0 +1,4 @@
+pub mod MemoryLemmas
+pub mod SinkLemmas
+pub mod SourceLemmas
+pub mod WordLemmas
