@@ -1,0 +1,5 @@
+pub mod Chars
+pub mod Marks
+pub mod Pieces
+pub mod Tokens
+pub mod Words
