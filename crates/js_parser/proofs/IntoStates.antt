@@ -15,7 +15,6 @@ use Rattle.js_tree.specs.declared.Script as script
 use Rattle.js_tree.specs.declared.Declaration as declaration
 use Rattle.js_lexer.specs.declared.Token.{Token}
 use Rattle.js_parser.specs.Words.{Units, kind_stops, is, is_word, closes, stops, name_of, kind_names, start_of, same_mark, same_word}
-use Rattle.js_parser.specs.declared.classes.Start.TheVariants as start
 use Rattle.js_parser.specs.declared.classes.Operand.{Operand}
 use Rattle.js_parser.specs.Rules.{Context, Symbol, Value, Rule}
 use Rattle.js_parser.specs.Rules.{Symbol as s}

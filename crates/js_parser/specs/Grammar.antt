@@ -24,7 +24,6 @@ use Rattle.js_tree.specs.declared.Case as clause
 use Rattle.js_tree.specs.declared.Catch as catch
 use Rattle.js_tree.specs.declared.Stmt.{Stmt}
 use Rattle.js_parser.specs.Stmts as s
-use Rattle.js_tree.specs.declared.Declaration as declaration
 use Rattle.js_tree.specs.declared.Script as script
 use Rattle.js_lexer.specs.declared.Token.{Token}
 use Rattle.js_parser.specs.declared.classes.Name.{Name}

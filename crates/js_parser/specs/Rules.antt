@@ -3,7 +3,6 @@ use Rattle.std.specs.Prelude.{ℕ, Bool, List, Result, Option}
 use Rattle.js_parser.specs.declared.Form.{Form}
 use Rattle.js_parser.specs.declared.stop.Stop.{Stop}
 use Rattle.js_tree.specs.declared.Expr as expr
-use Rattle.js_tree.specs.declared.Key as key
 use Rattle.js_tree.specs.declared.Stmt as stmt
 use Rattle.js_tree.specs.declared.Script as script
 use Rattle.js_tree.specs.declared.Declaration as declaration

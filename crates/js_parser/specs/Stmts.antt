@@ -1,5 +1,5 @@
 -- The kinds of statement as statements, and what stands in the head of `for`.
-use Rattle.std.specs.Prelude.{List, Option, Some, None}
+use Rattle.std.specs.Prelude.{List, Option}
 use Rattle.js_tree.specs.declared.StmtNode.TheVariants as node
 use Rattle.js_tree.specs.declared.Case as case
 use Rattle.js_tree.specs.declared.Catch as catch

@@ -33,11 +33,9 @@ use Rattle.js_parser.specs.declared.classes.Infix.TheVariants as between
 use Rattle.js_parser.specs.declared.classes.Name.{Name}
 use Rattle.js_parser.specs.declared.classes.Name.TheVariants as ident
 use Rattle.js_tree.specs.declared.BinaryOperator.TheVariants as op
-use Rattle.js_tree.specs.declared.UnaryOperator.{UnaryOperator}
 use Rattle.js_tree.specs.declared.UnaryOperator.TheVariants as sign
 use Rattle.js_tree.specs.declared.Sign.{Sign}
 use Rattle.js_tree.specs.declared.Sign.TheVariants as step
-use Rattle.js_tree.specs.declared.Literal.{Literal}
 use Rattle.js_tree.specs.declared.Literal.TheVariants as literal
 
 -- the units of a word or of a text
