@@ -9,7 +9,7 @@ ghost use Rattle.js_parser.specs.declared.stop.Stop.TheVariants.{Memory};
 use crate::Form;
 use crate::classes::{Head, Infix, Name, Prefix, Start, Tail};
 use crate::stop::Stop;
-use js_lexer::{call_units, CallWord, Kind, Mark, Reserved, Token};
+use js_lexer::{CallWord, Kind, Mark, Reserved, Token, call_units};
 use js_tree::{BinaryOperator, Expr, ExprNode, Literal, Sign, UnaryOperator};
 use std::alloc::Global;
 use turk_base::{Units, Whole};
