@@ -1,0 +1,3 @@
+pub mod FileEntries
+pub mod FileTasks
+pub mod Outcomes

@@ -1,0 +1,4 @@
+pub mod Bytes
+pub mod Tasks
+pub mod Stops
+pub mod Board
