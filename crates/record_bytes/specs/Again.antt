@@ -172,7 +172,7 @@ mutual
   data_again (DList items) (suc n) rest deep within is =
       let front = (to_be_bytes w32 (count_items items) ++ items_bytes items) ++ rest in
       data_is (suc n) (6 ∷ front) 6 front refl ∙ list_again (data_at n) items rest within.0 (items_again items n rest (omega arith) within.1 is)
-  data_again (DFields fields) zero rest deep within is = absurd (omega arith)
+  data_again (DFields _) zero rest deep within is = absurd (omega arith)
   data_again (DFields fields) (suc n) rest deep within is =
       let front = (to_be_bytes w32 (count_fields fields) ++ fields_bytes fields) ++ rest in
       data_is (suc n) (7 ∷ front) 7 front refl ∙ fields_again (data_at n) fields rest within.0 is.0 (pairs_again fields n rest (omega arith) within.1 is.1)
