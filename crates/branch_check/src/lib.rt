@@ -1,0 +1,77 @@
+//! The monitor of branches: which slots are open, and whether the branches of a run were independent.
+#![tactic(auto)]
+
+use std::alloc::Global;
+use std::marker::Model;
+use turk_base::Path;
+
+mod calls;
+mod opens;
+#[cfg(test)]
+mod tests;
+
+/// A part of a cell by numbers: the cell's, and that of a key, where key 0 is the shape.
+#[derive(Clone, Copy, Debug, Drop, PartialEq, Eq)]
+pub struct Slot {
+    pub cell: u32,
+    pub key: u32,
+}
+
+/// Whether the branches of a run were independent, or the first reason why not.
+#[derive(Drop)]
+pub enum Found {
+    Independent,
+    /// A branch touched this slot, which another had open.
+    TouchedOpen(Slot),
+    /// A once call came while this slot was open.
+    OnceWhileOpen(Slot),
+    /// This branch ended by a throw.
+    BranchThrew(Path),
+}
+
+/// A slot that a branch wrote outside itself.
+#[derive(Drop)]
+struct OpenSlot {
+    slot: Slot,
+    by: Path,
+}
+
+/// The open slots and what was found.
+#[derive(Drop)]
+struct Noted {
+    opened: Vec<OpenSlot>,
+    found: Found,
+}
+
+/// Open slots and a verdict, which can be taken back to what they were at a mark.
+///
+/// Contracts see the open slots in order of first writing, each with the path that wrote it, the
+/// verdict, and both as they were at each open mark, the newest last.
+#[derive(Drop)]
+pub struct Monitor {
+    alloc: Global,
+    noted: Noted,
+    marks: Vec<Noted>,
+}
+
+impl Model for Monitor {
+    ghost use Rattle.branch_check.specs.Watch.{Seen, seen_of};
+
+    ghost Value = { Seen };
+
+    ghost view = { seen_of };
+}
+
+/// An open mark of a Monitor. Contracts see how many marks were open with it.
+#[derive(Drop)]
+pub struct MonitorMark {
+    open: usize,
+}
+
+impl Model for MonitorMark {
+    ghost use Rattle.std.specs.Prelude.{ℕ};
+
+    ghost Value = { ℕ };
+
+    ghost view = { λ m. m.open };
+}
