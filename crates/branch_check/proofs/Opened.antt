@@ -1,8 +1,8 @@
 -- A slot is open at its place, or nowhere.
-use Rattle.std.proofs.Common.{◌≡◌, refl, ap, sym, ◌∙◌, ℕ, suc, ◌<◌, ◌≤◌, Bool, true, false, List, [], ◌∷◌, ◌++◌, length, get_or, take, drop, arith, Some, None}
+use Rattle.std.proofs.Common.{◌≡◌, refl, ap, sym, ◌∙◌, ℕ, suc, ◌<◌, true, false, List, [], ◌∷◌, ◌++◌, length, take, drop, Some}
 use Rattle.std.proofs.Math.Seq.{drop-cons, take-suc}
 use Rattle.std.proofs.lemmas.List.{append_assoc, set_split}
-use Rattle.std.specs.Prelude.{slice_set, slice_index_or}
+use Rattle.std.specs.Prelude.{slice_index_or}
 use Rattle.branch_check.specs.declared.Slot.{Slot}
 use Rattle.branch_check.specs.declared.OpenSlot.{OpenSlot}
 use Rattle.branch_check.specs.Numbers.{same_slot, opened, open_slot, Places}

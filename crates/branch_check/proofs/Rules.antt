@@ -1,10 +1,10 @@
 -- The rules by numbers are the rules by names.
-use Rattle.std.proofs.Common.{◌≡◌, refl, ap, sym, ◌∙◌, subst, ℕ, zero, suc, Bool, true, false, List, [], ◌∷◌, ◌++◌, ◌&&◌, ◌||◌, not, true≢false, arith, Option, Some, None}
+use Rattle.std.proofs.Common.{◌≡◌, refl, ap, sym, ◌∙◌, subst, ℕ, zero, suc, Bool, true, false, List, [], ◌∷◌, ◌++◌, ◌&&◌, ◌||◌, not, true≢false, arith, Some}
 use Rattle.std.specs.Prelude.{◌==◌, if◌then◌else◌}
 use Rattle.std.specs.Option.{option_map}
 use Rattle.std.specs.List.{flat_map}
 use Rattle.std.proofs.lemmas.Bool.Decides.{nat_tests}
-use Rattle.turk_base.specs.Names.{Path, root, sub, path_in, path_on, cell, Name, Part, shape, at, Slot, slot, slot_eq, pick, under}
+use Rattle.turk_base.specs.Names.{Path, root, sub, path_in, path_on, cell, Part, shape, at, Slot, slot, slot_eq, pick, under}
 use Rattle.turk_base.specs.State.{Opening, opening, touched, first_open, open_at, open_by, cut, independent, first_reason, touch_reason, once_reason}
 use Rattle.turk_base.specs.Trace.{begins}
 use Rattle.branch_check.specs.declared.Slot.{Slot as CodeSlot}

@@ -1,5 +1,5 @@
 -- The rules on open slots as they are kept: numbers of cells and keys, and paths as lists (own rules).
-use Rattle.std.specs.Prelude.{ℕ, Bool, true, false, ◌&&◌, ◌||◌, ◌==◌, not, List, [], ◌∷◌, Option, Some, None, if◌then◌else◌, ◌≡◌, ◌<◌, ◌++◌, length, slice_set}
+use Rattle.std.specs.Prelude.{ℕ, Bool, false, ◌&&◌, ◌||◌, ◌==◌, not, List, [], ◌∷◌, Option, Some, None, if◌then◌else◌, ◌≡◌, ◌<◌, ◌++◌, length, slice_set}
 use Rattle.turk_base.specs.Trace.{begins}
 use Rattle.branch_check.specs.declared.Slot.{Slot}
 use Rattle.branch_check.specs.declared.OpenSlot.{OpenSlot}
