@@ -1,6 +1,6 @@
 -- The tasks of a file are those of its entries, and their tokens are distinct.
-use Rattle.std.proofs.Common.{◌≡◌, inl, ℕ, ◌+◌, ◌<◌, ◌≤◌, Bool, true, false, ◌&&◌, List, [], ◌∷◌, ◌++◌, length, take, get_or, Option, Some, None, refl, sym, ap, subst, ◌∙◌}
-use Rattle.std.specs.Prelude.{nat_le, not, is_some, if◌then◌else◌}
+use Rattle.std.proofs.Common.{◌≡◌, ◌⊎◌, inl, inr, ℕ, ◌+◌, ◌<◌, ◌≤◌, Bool, true, false, ◌&&◌, List, [], ◌∷◌, ◌++◌, length, take, get_or, Option, Some, None, refl, sym, ap, subst, ◌∙◌, arith}
+use Rattle.std.specs.Prelude.{nat_le, not, is_some, IsSome, if◌then◌else◌}
 use Rattle.std.proofs.lemmas.Bool.{false≢true, leb-true, leb-false}
 use Rattle.std.proofs.lemmas.List.{take_more}
 use Rattle.turk_base.specs.Trace.{answer}
@@ -9,7 +9,7 @@ use Rattle.gate_log.specs.Log.{IsLog}
 use Rattle.record_bytes.specs.Limits.{SpellsTask}
 use Rattle.record_bytes.specs.Unique.{task_whole}
 use Rattle.ledger_board.specs.Bytes.{entries_in}
-use Rattle.ledger_board.specs.Tasks.{AreTasks, with_task, tasks_of, has_distinct, ledger_tasks}
+use Rattle.ledger_board.specs.Tasks.{AreTasks, IsLedger, with_task, tasks_of, has_distinct, ledger_tasks}
 use Rattle.ledger_board.proofs.FileEntries.{entries_are}
 
 pub tasks_are : (es : List (List ℕ)) (ts : Tasks) → AreTasks es ts → tasks_of es ≡ ts

@@ -1,5 +1,5 @@
 -- What a post leaves, and why it is answered so.
-use Rattle.std.proofs.Common.{◌≡◌, ◌⊎◌, inl, inr, ⊎_elim, ℕ, ◌<◌, ◌≤◌, Bool, true, false, List, [], ◌∷◌, ◌++◌, length, take, get_or, Some, None, Result, Ok, Err, refl, sym, ap, subst, ◌∙◌, arith}
+use Rattle.std.proofs.Common.{◌≡◌, ◌⊎◌, inl, inr, ⊎_elim, ℕ, ◌+◌, ◌<◌, ◌≤◌, Bool, true, false, List, [], ◌∷◌, ◌++◌, length, take, get_or, Option, Some, None, Result, Ok, Err, refl, sym, ap, subst, ◌∙◌, arith}
 use Rattle.std.specs.Prelude.{IsErrOf, OnOk}
 use Rattle.std.proofs.lemmas.Bool.{false≢true}
 use Rattle.turk_base.specs.Trace.{answer}
@@ -8,7 +8,7 @@ use Rattle.board_model.specs.Board.{IsHonest}
 use Rattle.board_model.specs.declared.Posted.{Posted}
 use Rattle.board_model.specs.declared.Posted.TheVariants.{New, Held}
 use Rattle.board_model.proofs.Added.{tasks_push}
-use Rattle.disk_model.specs.Disk.{LeavesOnly}
+use Rattle.disk_model.specs.Disk.{LeavesOnly, Rose}
 use Rattle.gate_log.specs.Log.{IsLog, IsGated, WithOrWithout}
 use Rattle.gate_log.specs.GateLog.{FitsIn, entries_of, is_closed_of, IsOn}
 use Rattle.gate_log.specs.GateLog as logs
@@ -18,7 +18,7 @@ use Rattle.gate_log.specs.declared.LogStop.TheVariants as log
 use Rattle.record_bytes.specs.Limits.{SpellsTask}
 use Rattle.record_bytes.specs.Spelling.{task_bytes}
 use Rattle.ledger_board.specs.Tasks.{AreTasks, IsNoTask, IsBadTask, IsLedger, ledger_tasks}
-use Rattle.ledger_board.specs.Stops.{stop_of, IsRefusal, IsAnswer, Leaves, Reads, IsPosted, closed_after}
+use Rattle.ledger_board.specs.Stops.{stop_of, IsRefusal, HoldsTask, IsAnswer, Leaves, Reads, IsPosted, closed_after}
 use Rattle.ledger_board.specs.Board.{IsOpen, IsSound, is_opened, is_shut, board_answer, cause_after}
 use Rattle.ledger_board.specs.declared.board.State.{State}
 use Rattle.ledger_board.specs.declared.board.State.TheVariants.{Unopened, Opened, Shut}

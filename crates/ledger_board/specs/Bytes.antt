@@ -1,5 +1,5 @@
 -- The entries of a file, read off its bytes. Own rules; the file's form is the relation of the log, with which this agrees.
-use Rattle.std.specs.Prelude.{◌==◌, ℕ, zero, suc, List, [], ◌∷◌, length, take, drop, if◌then◌else◌, nat_le}
+use Rattle.std.specs.Prelude.{◌≡◌, ◌+◌, ◌-◌, ◌^◌, ◌<◌, ◌≤◌, ◌==◌, ℕ, zero, suc, Bool, true, false, List, [], ◌∷◌, ◌++◌, length, take, drop, if◌then◌else◌, nat_le}
 use Rattle.std.specs.Int.{w32, from_be_bytes}
 
 -- the length that four bytes say

@@ -1,16 +1,16 @@
 -- What a ledger answers, and when. Own rules.
-use Rattle.std.specs.Prelude.{◌≡◌, ◌⊎◌, ⊤, ◌<◌, ◌≤◌, ℕ, Bool, true, false, List, [], ◌∷◌, ◌++◌, length, Option, Some, None, Result, Ok, Err, IsErrOf}
+use Rattle.std.specs.Prelude.{◌≡◌, ◌⊎◌, ⊤, ◌+◌, ◌-◌, ◌^◌, ◌<◌, ◌≤◌, min, ℕ, Bool, true, false, List, [], ◌∷◌, ◌++◌, length, Option, Some, None, Result, Ok, Err, IsErrOf}
 use Rattle.turk_base.specs.Trace.{answer}
 use Rattle.board_model.specs.Tokens.{Tasks, HasDistinctTokens}
 use Rattle.board_model.specs.declared.Posted.{Posted}
 use Rattle.board_model.specs.declared.Posted.TheVariants.{New, Held}
 use Rattle.disk_model.specs.Disk.{Rose}
 use Rattle.gate_log.specs.Log.{IsLog, IsBroken}
-use Rattle.gate_log.specs.GateLog.{FitsIn}
+use Rattle.gate_log.specs.GateLog.{FitsIn, entries_of, is_closed_of, IsOn}
 use Rattle.gate_log.specs.declared.LogStop.{LogStop}
 use Rattle.gate_log.specs.declared.LogStop.TheVariants as log
 use Rattle.record_bytes.specs.Spelling.{task_bytes}
-use Rattle.ledger_board.specs.Tasks.{AreTasks, IsBadTask}
+use Rattle.ledger_board.specs.Tasks.{AreTasks, IsBadTask, IsLedger}
 use Rattle.ledger_board.specs.declared.LedgerCause.{LedgerCause}
 use Rattle.ledger_board.specs.declared.LedgerCause.TheVariants.{Disk, Broken, BadTask, Full, Closed}
 use Rattle.ledger_board.specs.declared.stop.LedgerStop.{LedgerStop}

@@ -1,5 +1,5 @@
 -- Entries that are tasks, and the tasks of a file. Own rules.
-use Rattle.std.specs.Prelude.{◌⊎◌, ⊤, ◌<◌, ℕ, Bool, true, not, ◌&&◌, List, [], ◌∷◌, length, take, slice_index_or, Option, Some, None, IsSome, is_some, if◌then◌else◌}
+use Rattle.std.specs.Prelude.{◌≡◌, ◌⊎◌, ⊤, ◌+◌, ◌<◌, ◌≤◌, ℕ, Bool, true, false, not, ◌&&◌, List, [], ◌∷◌, ◌++◌, length, take, slice_index_or, Option, Some, None, IsSome, is_some, if◌then◌else◌}
 use Rattle.turk_base.specs.Trace.{answer}
 use Rattle.board_model.specs.Tokens.{Tasks, HasDistinctTokens}
 use Rattle.gate_log.specs.Log.{IsLog}

@@ -1,4 +1,4 @@
-use Rattle.std.proofs.Common.{rules, arith, ◌≡◌, ◌+◌, ◌++◌, ◌∷◌, [], take, None, subst, sym}
+use Rattle.std.proofs.Common.{rules, arith, ◌≡◌, ◌+◌, ◌++◌, ◌∷◌, [], ℕ, take, None, subst, sym}
 use Rattle.turk_base.specs.Trace.{answer}
 use Rattle.board_model.specs.Tokens.{Tasks, HasDistinctTokens}
 use Rattle.board_model.proofs.Added.{tasks_push}

@@ -1,4 +1,4 @@
-use Rattle.std.proofs.Common.{take}
+use Rattle.std.proofs.Common.{List, ℕ, take}
 use Rattle.board_model.specs.Tokens.{HasDistinctTokens}
 use Rattle.gate_log.specs.GateLog.{entries_of}
 use Rattle.ledger_board.specs.Tasks.{AreTasks}

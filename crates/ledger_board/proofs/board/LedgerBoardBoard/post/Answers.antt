@@ -1,4 +1,4 @@
-use Rattle.std.proofs.Common.{rules, ◌≡◌, sym, subst}
+use Rattle.std.proofs.Common.{rules, ◌≡◌, List, ℕ, sym, subst}
 use Rattle.std.specs.Prelude.{OnOk}
 use Rattle.board_model.specs.Board.{IsHonest}
 use Rattle.ledger_board.specs.Tasks.{ledger_tasks, IsLedger}

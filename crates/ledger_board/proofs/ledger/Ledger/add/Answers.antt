@@ -1,6 +1,6 @@
-use Rattle.std.proofs.Common.{rules, ◌≡◌, ◌++◌, ◌∷◌, [], ℕ, List, false, sym, ap, subst, Err}
+use Rattle.std.proofs.Common.{rules, ◌≡◌, ◌++◌, ◌∷◌, [], ℕ, List, false, sym, ap, subst, ◌∙◌, Err}
 use Rattle.board_model.specs.Tokens.{Tasks}
-use Rattle.gate_log.specs.GateLog.{entries_of, is_closed_of}
+use Rattle.gate_log.specs.GateLog.{entries_of, is_closed_of, IsOn}
 use Rattle.record_bytes.specs.Limits.{SpellsTask}
 use Rattle.ledger_board.specs.Tasks.{ledger_tasks}
 use Rattle.ledger_board.specs.Stops.{Leaves}
