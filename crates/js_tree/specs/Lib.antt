@@ -1,7 +1,10 @@
+pub mod Bare
+pub mod Binds
 pub mod Calls
 pub mod Eval
 pub mod Expressions
 pub mod Lawful
+pub mod NameCount
 pub mod Open
 pub mod Operate
 pub mod Pieces

@@ -7,6 +7,9 @@
 ghost use Rattle.std.specs.Prelude.{◌≡◌, false};
 ghost use Rattle.js_tree.specs.Trees.{script_of, functions_of, statements_of, number_of, declaration_of, declared_name, declared_parameters, declared_body, unbound};
 
+mod resolved;
+
+pub use resolved::Resolved;
 use sqlite_items::{Boxed, Items};
 use turk_base::{Units, Whole};
 
