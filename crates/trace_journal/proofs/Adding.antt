@@ -1,36 +1,13 @@
 -- An entry that is added: the answers of log and trace, and what a stop leaves.
-use Rattle.std.proofs.Common.{◌≡◌, ◌≢◌, ◌⊎◌, inl, inr, ℕ, ◌+◌, ◌<◌, ◌≤◌, Bool, true, false, List, [], ◌∷◌, ◌++◌, length, Option, Some, None, Result, Ok, Err, refl, sym, ap, subst, ◌∙◌, arith}
-use Rattle.std.specs.Prelude.{IfErr, is_ok, IsSome, is_some}
-use Rattle.std.proofs.lemmas.Bool.{false≢true}
+use Rattle.std.proofs.Common.{◌≡◌, ◌⊎◌, inl, inr, ℕ, ◌<◌, ◌≤◌, List, [], ◌∷◌, ◌++◌, length, None, sym, subst, arith}
 use Rattle.disk_model.specs.Disk.{LeavesOnly}
 use Rattle.gate_log.specs.Log as logged
-use Rattle.gate_log.specs.GateLog.{IsCauseOf}
-use Rattle.gate_log.specs.declared.LogStop.{LogStop}
-use Rattle.gate_log.specs.declared.LogStop.TheVariants as stopped
 use Rattle.turk_base.specs.declared.Entry.{Entry}
 use Rattle.turk_base.specs.Trace.{at}
-use Rattle.trace_tree.specs.Traces.{Kept}
-use Rattle.trace_tree.specs.Spots.{Refuses}
-use Rattle.trace_tree.specs.declared.TraceStop.{TraceStop}
-use Rattle.trace_tree.specs.declared.TraceStop.TheVariants as pushed
 use Rattle.record_bytes.specs.declared.Head.{Head}
 use Rattle.record_bytes.specs.Limits.{Spells}
-use Rattle.trace_journal.specs.Journal.{IsJournalOf, IsJournal, WithOrWithout}
+use Rattle.trace_journal.specs.Journal.{IsJournalOf, WithOrWithout}
 use Rattle.trace_journal.specs.Laws.{journal_push}
-use Rattle.trace_journal.specs.TraceJournal.{stop_of}
-use Rattle.trace_journal.specs.declared.JournalStop.{JournalStop}
-use Rattle.trace_journal.specs.declared.JournalStop.TheVariants.{Fault, Closed}
-
--- no record stands where none was found
-some_apart : {A : Type 0} (o : Option A) → o ≡ None → IsSome o → ⊥
-some_apart o none some = false≢true (sym (ap is_some none) ∙ some)
-
--- a push that had its place answers Ok
-pub push_is_ok : {T : Type 0} (t : Kept) (e : Entry) (r : Result T TraceStop) → at t.entries e.path ≡ None → length t.entries < 65536 → length e.path < t.room → IfErr r (Refuses t e) → is_ok r ≡ true
-push_is_ok t e (Ok u) fresh few room why = refl
-push_is_ok t e (Err (pushed.Repeated back)) fresh few room why = absurd (some_apart (at t.entries e.path) fresh why.1)
-push_is_ok t e (Err (pushed.Full back)) fresh few room why = absurd (omega (arith, why.2))
-push_is_ok t e (Err (pushed.Memory back)) fresh few room why = absurd (omega (arith, why.3))
 
 pub leaves_map : {D : Type 0} (moment : D → ℕ) (left_since : D → ℕ → List ℕ → Type 0) (old new : D) (P Q : List ℕ → Type 0) → ((c : List ℕ) → P c → Q c) → LeavesOnly moment left_since old new P → LeavesOnly moment left_since old new Q
 leaves_map moment left_since old new P Q f l = record { later = l.later; before = λ t c le left. by_case c (l.before t c le left) }
@@ -53,18 +30,7 @@ pub with_or_without : (bs : List (List ℕ)) (h : Head) (es : List Entry) (b : L
 with_or_without bs h es b e is of_e fresh few c (inl gated) = inl (bs, inr gated, is)
 with_or_without bs h es b e is of_e fresh few c (inr gated) = inr (bs ++ b ∷ [], inr gated, journal_push bs h es b e is of_e fresh few)
 
--- an append of an entry that is ready is refused by a closed log or a fault alone
-pub kinds_of : (closed : Bool) (fits : Type 0) (e : LogStop) → fits → (e ≡ stopped.Memory → ⊥) → IsCauseOf closed fits e → ((stop_of e ≡ Closed) × (closed ≡ true)) ⊎ ((stop_of e ≡ Fault) × (closed ≡ false))
-kinds_of closed fits stopped.Fault fit room cause = inr (refl, cause.0)
-kinds_of closed fits (stopped.Broken place) fit room cause = absurd cause
-kinds_of closed fits stopped.Full fit room cause = absurd (cause.1 fit)
-kinds_of closed fits stopped.Closed fit room cause = inl (refl, cause)
-kinds_of closed fits stopped.Memory fit room cause = absurd (room refl)
-
 -- the journal after an append that answered Ok, and after one that didn't
 pub keeps_ok : (bs new : List (List ℕ)) (h : Head) (es more : List Entry) (b : List ℕ) (e : Entry) → IsJournalOf bs h es → Spells b e → at es e.path ≡ None → length es < 65536 → new ≡ bs ++ b ∷ [] → more ≡ es ++ e ∷ [] → IsJournalOf new h more
 keeps_ok bs new h es more b e is of_e fresh few new_is more_is =
     subst (λ (l : List Entry). IsJournalOf new h l) (sym more_is) (subst (λ (l : List (List ℕ)). IsJournalOf l h (es ++ e ∷ [])) (sym new_is) (journal_push bs h es b e is of_e fresh few))
-
-pub keeps_err : (bs new : List (List ℕ)) (h : Head) (es : List Entry) → IsJournalOf bs h es → new ≡ bs → IsJournalOf new h es
-keeps_err bs new h es is new_is = subst (λ (l : List (List ℕ)). IsJournalOf l h es) (sym new_is) is

@@ -1,5 +1,5 @@
 -- Bytes are broken, or have a bad entry, or aren't begun, or are a journal: one of these, at one place, number, head and list.
-use Rattle.std.proofs.Common.{◌≡◌, ◌≢◌, ◌⊎◌, inl, inr, ℕ, zero, suc, ◌+◌, ◌<◌, ◌≤◌, List, [], ◌∷◌, ◌++◌, length, get_or, take, drop, None, refl, sym, ap, subst, ◌∙◌, arith, length-append}
+use Rattle.std.proofs.Common.{◌≡◌, ◌≢◌, ◌⊎◌, inl, inr, ℕ, zero, suc, ◌<◌, List, [], ◌∷◌, ◌++◌, length, get_or, take, None, refl, sym, ap, subst, ◌∙◌, arith, length-append}
 use Rattle.std.proofs.lemmas.Bool.{cases_order}
 use Rattle.std.proofs.lemmas.List.{take-take, get_or-take, length-take}
 use Rattle.turk_base.specs.declared.Entry.{Entry}
@@ -7,8 +7,7 @@ use Rattle.turk_base.specs.Trace.{at}
 use Rattle.trace_tree.specs.Traces.{HasDistinctPaths}
 use Rattle.record_bytes.specs.declared.Head.{Head}
 use Rattle.record_bytes.specs.Limits.{Spells}
-use Rattle.gate_log.specs.Log.{IsLog, IsBroken}
-use Rattle.gate_log.specs.Unique.{one_log, not_broken}
+use Rattle.gate_log.specs.Unique.{one_log}
 use Rattle.trace_journal.specs.Journal.{AreSpelled, AreRecords, IsJournalOf, IsJournal, IsUnbegun, IsBadRecord, IsBadAt}
 use Rattle.trace_journal.specs.TraceJournal.{IsBadJournal, IsOther}
 use Rattle.trace_journal.specs.declared.JournalStop.{JournalStop}

@@ -1,5 +1,5 @@
 -- A record more at the end of a journal, and that bytes are the journal of one head and one list of records at most.
-use Rattle.std.proofs.Common.{◌≡◌, ◌≢◌, ◌⊎◌, inl, inr, ℕ, zero, suc, ◌+◌, ◌<◌, ◌≤◌, Bool, true, false, cond, List, [], ◌∷◌, ◌++◌, length, take, Option, Some, None, refl, sym, ap, subst, ◌∙◌, arith, length-append}
+use Rattle.std.proofs.Common.{◌≡◌, ◌≢◌, ℕ, suc, ◌<◌, Bool, true, false, cond, List, [], ◌∷◌, ◌++◌, length, Some, None, refl, sym, ap, subst, ◌∙◌, arith, length-append}
 use Rattle.std.specs.Prelude.{nat_eq}
 use Rattle.std.specs.Cmp.Lexicographic.{pointwise}
 use Rattle.std.proofs.lemmas.Bool.Decides.{Decides-eqb}
@@ -8,7 +8,7 @@ use Rattle.turk_base.specs.declared.Entry.{Entry}
 use Rattle.turk_base.specs.Trace.{at}
 use Rattle.trace_tree.specs.Traces.{HasDistinctPaths, IsTrace}
 use Rattle.record_bytes.specs.declared.Head.{Head}
-use Rattle.record_bytes.specs.Limits.{Spells, SpellsHead}
+use Rattle.record_bytes.specs.Limits.{Spells}
 use Rattle.record_bytes.specs.Unique.{one_entry, one_head}
 use Rattle.gate_log.specs.Unique.{one_log}
 use Rattle.trace_journal.specs.Journal.{AreSpelled, AreRecords, IsJournalOf, IsJournal}

@@ -1,5 +1,5 @@
 -- A journal in memory, what an entry needs to be added, and why a call refuses. Own rules.
-use Rattle.std.specs.Prelude.{◌≡◌, ◌≢◌, ◌⊎◌, ◌<◌, ◌≤◌, ◌+◌, ⊤, ℕ, Bool, true, false, List, [], length, None, Result, IsErrOf, nat_eq}
+use Rattle.std.specs.Prelude.{◌≡◌, ◌≢◌, ◌⊎◌, ◌<◌, ◌≤◌, ⊤, ℕ, Bool, List, [], length, None, Result, IsErrOf, nat_eq}
 use Rattle.std.specs.List.{common_prefix_len}
 use Rattle.turk_base.specs.declared.Entry.{Entry}
 use Rattle.turk_base.specs.Trace.{at}

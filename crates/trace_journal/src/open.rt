@@ -24,7 +24,10 @@ use trace_tree::Trace;
 /// The refusals, in their order: Fault only where the disk's count of faults rose; LogFull exactly where the file has
 /// more than 67,108,864 bytes; Broken exactly where the bytes are no log; BadRecord with the number of the first entry
 /// that is no head, no record, a record at a path of an earlier one, or the record past 65,536. Memory at any time.
-pub fn look_journal<D: Disk>(alloc: Global, disk: &mut D) -> Result<Option<(Head, Trace)>, JournalStop>
+pub fn look_journal<D: Disk>(
+    alloc: Global,
+    disk: &mut D,
+) -> Result<Option<(Head, Trace)>, JournalStop>
     ensures some { D.tells → IfOk result (λ found. IfSome found (λ p. IsJournal (D.bytes disk.old) p.0 p.1.entries)) }
     ensures none { D.tells → IfOk result (λ found. IfNone found (IsUnbegun (D.bytes disk.old))) }
     ensures of_some_bytes { IfOk result (λ found. IfSome found (λ p. (c : List ℕ) × (length c ≤ 67108864) × IsJournal c p.0 p.1.entries)) }
@@ -76,7 +79,12 @@ fn same_head(kept: Head, wanted: &Head) -> Result<(), JournalStop>
 }
 
 // Begins a journal on a log without entries: appends the head.
-fn begin<D: Disk>(alloc: Global, disk: &mut D, mut log: GateLog, head: &Head) -> Result<TraceJournal, JournalStop>
+fn begin<D: Disk>(
+    alloc: Global,
+    disk: &mut D,
+    mut log: GateLog,
+    head: &Head,
+) -> Result<TraceJournal, JournalStop>
     requires within { IsHeadWithin head.now }
     requires empty { gates.entries_of log ≡ [] }
     requires open { gates.is_closed_of log ≡ false }
@@ -110,7 +118,11 @@ fn begin<D: Disk>(alloc: Global, disk: &mut D, mut log: GateLog, head: &Head) ->
 /// The refusals are those of `look_journal`, then OtherName, OtherScript and OtherFuel where the kept head is another,
 /// the first that holds. Nothing is repaired: a file of more than one byte that is refused otherwise than with Fault
 /// keeps its bytes.
-pub fn open_journal<D: Disk>(alloc: Global, disk: &mut D, head: &Head) -> Result<TraceJournal, JournalStop>
+pub fn open_journal<D: Disk>(
+    alloc: Global,
+    disk: &mut D,
+    head: &Head,
+) -> Result<TraceJournal, JournalStop>
     requires { IsHeadWithin head.now }
     ensures keeps { IfOk result (λ j. Keeps j head.now) }
     ensures journal { D.tells → IfOk result (λ j. (IsUnbegun (D.bytes disk.old) × (records_of j ≡ [])) ⊎ IsJournal (D.bytes disk.old) head.now (records_of j)) }

@@ -1,4 +1,4 @@
-use Rattle.std.proofs.Common.{rules, List, ℕ, sym, subst}
+use Rattle.std.proofs.Common.{List, ℕ, sym, subst}
 use Rattle.gate_log.specs.GateLog.{entries_of}
 use Rattle.record_bytes.specs.Limits.{SpellsHead}
 use Rattle.trace_journal.proofs.Adding.{leaves_map}

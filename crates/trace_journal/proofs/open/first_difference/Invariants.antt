@@ -1,4 +1,4 @@
-use Rattle.std.proofs.Common.{length, ◌-◌, ◌≤◌}
+use Rattle.std.proofs.Common.{length, ◌-◌}
 use Rattle.trace_journal.proofs.Opening.{SameUntil}
 use Rattle.trace_journal.proofs.open.first_difference.Given as goal
 

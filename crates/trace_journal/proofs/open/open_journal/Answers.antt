@@ -1,4 +1,4 @@
-use Rattle.std.proofs.Common.{rules, ◌≡◌, ℕ, List, []}
+use Rattle.std.proofs.Common.{rules, ◌≡◌, []}
 use Rattle.gate_log.specs.GateLog.{entries_of}
 use Rattle.trace_journal.specs.Journal.{IsUnbegun}
 use Rattle.trace_journal.proofs.Adding.{leaves_map, leaves_then}

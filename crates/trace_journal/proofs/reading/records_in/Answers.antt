@@ -1,4 +1,3 @@
-use Rattle.std.proofs.Common.{rules, ◌≡◌, ◌++◌, ◌∷◌, []}
 use Rattle.gate_log.specs.GateLog.{entries_of}
 use Rattle.trace_journal.proofs.Parts.{read_more}
 use Rattle.trace_journal.proofs.reading.records_in.Goals as goal

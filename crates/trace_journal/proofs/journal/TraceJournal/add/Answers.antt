@@ -1,4 +1,4 @@
-use Rattle.std.proofs.Common.{rules, List, ℕ, sym, subst}
+use Rattle.std.proofs.Common.{List, ℕ, sym, subst}
 use Rattle.gate_log.specs.GateLog as log
 use Rattle.record_bytes.specs.Limits.{Spells}
 use Rattle.trace_journal.specs.TraceJournal.{records_of, entries_of}
