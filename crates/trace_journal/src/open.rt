@@ -117,7 +117,9 @@ fn begin<D: Disk>(
 ///
 /// The refusals are those of `look_journal`, then OtherName, OtherScript and OtherFuel where the kept head is another,
 /// the first that holds. Nothing is repaired: a file of more than one byte that is refused otherwise than with Fault
-/// keeps its bytes.
+/// keeps its bytes. An opening makes one call of `write_at` and `sync`, or three for a file of at most one byte, and
+/// four more for the head. A stop at any moment leaves what a stop at the call's start might have left, or, where the
+/// log had no entry, a log without entries or a journal of this head without records.
 pub fn open_journal<D: Disk>(
     alloc: Global,
     disk: &mut D,
