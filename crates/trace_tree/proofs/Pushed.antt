@@ -1,17 +1,14 @@
 -- An entry more at the end of a trace.
-use Rattle.std.proofs.Common.{◌≡◌, ◌≢◌, ◌⊎◌, inl, inr, ℕ, zero, suc, ◌+◌, ◌<◌, ◌≤◌, Bool, true, false, cond, List, [], ◌∷◌, ◌++◌, length, take, Option, Some, None, refl, sym, ap, subst, ◌∙◌, arith, length-append}
-use Rattle.std.specs.Prelude.{nat_eq, slice_get}
-use Rattle.std.specs.Cmp.Lexicographic.{pointwise}
+use Rattle.std.proofs.Common.{◌≡◌, ◌≢◌, inl, inr, ℕ, zero, suc, ◌<◌, List, [], ◌∷◌, ◌++◌, length, take, None, refl, sym, ap, ◌∙◌, arith, length-append}
+use Rattle.std.specs.Prelude.{slice_get}
 use Rattle.std.proofs.Math.Seq.{take-nil}
 use Rattle.std.proofs.lemmas.Bool.{cases_lt}
-use Rattle.std.proofs.lemmas.Bool.Decides.{Decides-eqb}
-use Rattle.std.proofs.lemmas.Slice.Eq.{slice_eq-Decides}
 use Rattle.std.proofs.lemmas.Option.{slice_get_past}
 use Rattle.turk_base.specs.declared.Entry.{Entry}
 use Rattle.turk_base.specs.Trace.{at}
 use Rattle.trace_tree.specs.declared.spot.Spot.{Spot}
 use Rattle.trace_tree.specs.Traces.{HasDistinctPaths, IsTrace}
-use Rattle.trace_tree.specs.Spots.{path_in, path_of, IsSpot, StandsAt}
+use Rattle.trace_tree.specs.Spots.{path_in, path_of, StandsAt}
 use Rattle.trace_tree.proofs.Scans.{at_hit, at_skip}
 
 abbrev nothing_at : List Entry → List ℕ → Type 0

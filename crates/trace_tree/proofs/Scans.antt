@@ -1,5 +1,5 @@
 -- Scans of a trace, entry by entry.
-use Rattle.std.proofs.Common.{◌≡◌, ◌≢◌, ◌↔◌, ℕ, ◌+◌, ◌<◌, ◌≤◌, Bool, true, false, cond, ◌&&◌, ◌||◌, List, [], ◌∷◌, ◌++◌, length, get_or, take, drop, Option, Some, None, refl, sym, ap, subst, ◌∙◌, arith, length-append, append_assoc, take-append-drop, ◌⊎◌, inl, inr}
+use Rattle.std.proofs.Common.{◌≡◌, ◌≢◌, ◌↔◌, ℕ, ◌+◌, ◌<◌, ◌≤◌, Bool, true, false, cond, ◌&&◌, ◌||◌, List, [], ◌∷◌, ◌++◌, length, get_or, take, drop, Some, refl, sym, ap, subst, ◌∙◌, arith, length-append, append_assoc, take-append-drop, ◌⊎◌, inl, inr}
 use Rattle.std.specs.Prelude.{nat_eq, not as flip}
 use Rattle.std.specs.Cmp.Lexicographic.{pointwise}
 use Rattle.std.proofs.lemmas.Bool.Decides.{Decides-eqb}
@@ -7,12 +7,11 @@ use Rattle.std.proofs.lemmas.Bool.{false≢true}
 use Rattle.std.proofs.lemmas.Slice.Eq.{slice_eq-Decides}
 use Rattle.std.proofs.lemmas.List.{at_drop_more, append-nil, drop_more, drop_all, take_at, take_all, take_more, nil_from_length}
 use Rattle.turk_base.specs.declared.Entry.{Entry}
-use Rattle.turk_base.specs.declared.Record.{Record}
 use Rattle.turk_base.specs.Trace.{at, below, begins, same_list}
 use Rattle.std.specs.Prelude.{slice_get}
 use Rattle.std.proofs.lemmas.Option.{slice_get_read}
 use Rattle.trace_tree.specs.Spots.{path_in, StandsAt}
-use Rattle.trace_tree.specs.Traces.{Begins, StandsNone, HasDistinctPaths}
+use Rattle.trace_tree.specs.Traces.{Begins, StandsNone}
 use Rattle.trace_tree.proofs.Fronts.{begins_true, begins_false}
 
 same : (a b : List ℕ) → a ≡ b → pointwise nat_eq a b ≡ true

@@ -1,5 +1,5 @@
 -- The path that a Spot stands for.
-use Rattle.std.specs.Prelude.{◌≡◌, ◌+◌, ◌<◌, ◌≤◌, ℕ, List, [], ◌∷◌, length, take, Option, Some, None, slice_get, IsSome}
+use Rattle.std.specs.Prelude.{◌≡◌, ◌<◌, ◌≤◌, ℕ, List, [], length, take, Option, Some, None, slice_get, IsSome}
 use Rattle.turk_base.specs.declared.Entry.{Entry}
 use Rattle.turk_base.specs.Trace.{at}
 use Rattle.trace_tree.specs.declared.spot.Spot.{Spot}

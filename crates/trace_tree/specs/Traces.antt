@@ -1,5 +1,5 @@
 -- What a trace is seen as, what is true of each, and why a push is refused.
-use Rattle.std.specs.Prelude.{◌≡◌, ◌+◌, ◌^◌, ◌<◌, ◌≤◌, ℕ, false, List, [], ◌∷◌, ◌++◌, length, None, if◌then◌else◌, nat_lt, IsSome, vec_len, vec_capacity}
+use Rattle.std.specs.Prelude.{◌≡◌, ◌^◌, ◌≤◌, ℕ, false, List, [], ◌∷◌, ◌++◌, length, None, if◌then◌else◌, nat_lt, vec_len, vec_capacity}
 use Rattle.std.specs.Global.{Vec}
 use Rattle.turk_base.specs.declared.Entry.{Entry}
 use Rattle.turk_base.specs.Trace.{at, below}

@@ -1,4 +1,4 @@
-use Rattle.std.proofs.Common.{◌≡◌, ◌≢◌, ◌⊎◌, ◌≤◌, ◌<◌, sym, ◌∙◌, subst, false, true, List, ℕ, ap, inr, take, get_or, length, ◌+◌, ◌++◌, ◌∷◌, [], refl, arith, rules}
+use Rattle.std.proofs.Common.{◌≡◌, ◌≢◌, sym, subst, List, ℕ, inr, take, get_or, ◌+◌, ◌++◌, ◌∷◌, [], refl}
 use Rattle.std.proofs.lemmas.Bool.{false≢true}
 use Rattle.trace_tree.specs.Traces.{StandsNone}
 use Rattle.trace_tree.specs.Spots.{StandsAt, path_of}

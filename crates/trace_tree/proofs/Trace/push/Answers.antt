@@ -1,4 +1,4 @@
-use Rattle.std.proofs.Common.{◌≡◌, ◌≢◌, sym, ◌∙◌, subst, false, true, List, ℕ, ap, rules, arith, None, ◌++◌, ◌∷◌, []}
+use Rattle.std.proofs.Common.{◌≡◌, rules, arith, None, ◌++◌, ◌∷◌, []}
 use Rattle.turk_base.specs.Trace.{at}
 use Rattle.trace_tree.proofs.Pushed.{trace_push, stands_push}
 use Rattle.trace_tree.proofs.Trace.push.Goals as goal

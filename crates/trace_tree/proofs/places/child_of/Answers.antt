@@ -1,6 +1,6 @@
-use Rattle.std.proofs.Common.{◌≡◌, ◌≢◌, sym, ◌∙◌, subst, false, true, List, ℕ, ap, refl, length, ◌+◌, ◌++◌, ◌∷◌, []}
+use Rattle.std.proofs.Common.{sym, ◌∙◌, subst, List, ℕ, refl, length, ◌+◌, ◌++◌, ◌∷◌, []}
 use Rattle.std.proofs.lemmas.Bool.{false≢true}
-use Rattle.trace_tree.specs.Traces.{Begins, StandsNone}
+use Rattle.trace_tree.specs.Traces.{StandsNone}
 use Rattle.trace_tree.specs.Spots.{StandsAt}
 use Rattle.trace_tree.proofs.Scans.{passed_none, found_none, ended_none, spot_found}
 use Rattle.trace_tree.proofs.places.child_of.Goals as goal

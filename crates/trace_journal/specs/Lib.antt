@@ -1,0 +1,4 @@
+pub mod Apart
+pub mod Journal
+pub mod Laws
+pub mod TraceJournal
