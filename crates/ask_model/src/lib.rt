@@ -6,7 +6,9 @@ ghost use Rattle.std.specs.Prelude.{◌≡◌};
 
 use turk_base::{Path, Units, Whole};
 
+mod asked;
 mod asker;
+mod scans;
 
 pub use asker::Asker;
 
