@@ -31,6 +31,14 @@ Added traced e old new (Some TraceFull) = (new ≡ old) × (65536 ≤ traced + l
 Added traced e old new (Some LogFull) = ⊥
 Added traced e old new (Some Memory) = new ≡ old
 
+-- why there is no room for one record more
+abbrev pub IsFull : ℕ → List Entry → AskStop → Type 0
+IsFull traced made (Fault which) = ⊥
+IsFull traced made (Diverged d) = ⊥
+IsFull traced made TraceFull = 65536 ≤ traced + length made
+IsFull traced made LogFull = ⊥
+IsFull traced made Memory = ⊤
+
 -- the path asked last, where one was
 abbrev pub asked_of : Bool → List ℕ → Option (List ℕ)
 asked_of true path = Some path

@@ -6,11 +6,14 @@ ghost use Rattle.std.specs.Prelude.{◌≡◌};
 
 use turk_base::{Path, Units, Whole};
 
+mod adds;
 mod asked;
 mod asker;
 mod scans;
+mod table;
 
 pub use asker::Asker;
+pub use table::TableAsker;
 
 /// A device that an asker stands on.
 #[derive(Clone, Copy, Debug, Drop, PartialEq, Eq)]
