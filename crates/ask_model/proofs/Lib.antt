@@ -1,2 +1,3 @@
 pub mod Finds
 pub mod Tables
+pub mod Recorders

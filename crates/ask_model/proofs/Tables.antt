@@ -18,9 +18,9 @@ use Rattle.ask_model.specs.declared.AskStop.TheVariants.{Fault, Diverged, TraceF
 use Rattle.ask_model.specs.declared.Refused.{Refused}
 use Rattle.ask_model.specs.Asker.{Pairs, entry, HasDistinctPaths, IsTrace, AreReplies, KnowsWithin, stop_of, refused_after, Adds, NoBoard, Drawn}
 use Rattle.ask_model.specs.Draws.{HaveWords, draws_in}
-use Rattle.ask_model.specs.Table.{table, Added, Keeps}
+use Rattle.ask_model.specs.Table.{table, Added, Drew, Keeps}
 
-same : (a b : List ℕ) → a ≡ b → pointwise nat_eq a b ≡ true
+pub same : (a b : List ℕ) → a ≡ b → pointwise nat_eq a b ≡ true
 same a b is = (slice_eq-Decides Decides-eqb a b (pointwise nat_eq a b) refl).1 is
 
 other : (a b : List ℕ) → a ≢ b → pointwise nat_eq a b ≡ false
@@ -119,16 +119,11 @@ pub refused_is : {T : Type 0} (result : Result T AskStop) (test : Bool) (later b
 refused_is (Ok x) test later before is after P h = subst P (sym (after ∙ ap (λ b. refused_after b before) is)) h
 refused_is (Err stop) test later before is after P h = subst P (sym (after ∙ ap (λ b. refused_after b before) is)) h
 
--- ---- a draw
+pub later_is : {T : Type 0} (result : Result T AskStop) (test : Bool) (later before : Refused) → test ≡ is_err result → later ≡ refused_after test before → later ≡ refused_after (is_some (stop_of result)) before
+later_is (Ok x) test later before is after = after ∙ ap (λ b. refused_after b before) is
+later_is (Err stop) test later before is after = after ∙ ap (λ b. refused_after b before) is
 
--- What a call that draws did, by its answer.
-pub record Drew {W : Type 0} (rest : W → ℕ → ℕ) (traced : ℕ) (path : List ℕ) (bound : ℤ) (old_draws new_draws : W) (made new : List Entry) (result : Result ℤ AskStop) : Type 0 where
-  pub value : IfOk result (λ v. v ≡ int_rem (pos (rest old_draws 0)) bound)
-  pub small : IfOk result (λ v. IsDraw bound v)
-  pub moves : OnOk result ((k : ℕ) → rest new_draws k ≡ rest old_draws (1 + k))
-  pub added : IfOk result (λ v. Added traced (entry path (Draw bound v)) made new None)
-  pub stays : OnErr result (new_draws ≡ old_draws)
-  pub refused : IfErr result (λ stop. (e : Entry) → Added traced e made new (Some stop))
+-- ---- a draw
 
 -- the draw that was made, or any
 abbrev pub value_in : Result ℤ AskStop → ℤ

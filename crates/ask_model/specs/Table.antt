@@ -1,11 +1,13 @@
 -- What a table is seen as, and what its calls do (own rules).
-use Rattle.std.specs.Prelude.{◌≡◌, ◌+◌, ◌≤◌, ◌<◌, ℕ, Bool, true, false, List, [], ◌∷◌, ◌++◌, length, Option, Some, None, if◌then◌else◌, ⊤}
+use Rattle.std.specs.Prelude.{◌≡◌, ◌+◌, ◌≤◌, ◌<◌, ℕ, ℤ, pos, int_rem, Bool, true, false, List, [], ◌∷◌, ◌++◌, length, Option, Some, None, Result, IfOk, IfErr, OnOk, OnErr, ⊤}
 use Rattle.std.specs.Borrow.{MutBor}
 use Rattle.turk_base.specs.declared.Entry.{Entry}
 use Rattle.ask_model.specs.declared.AskStop.{AskStop}
 use Rattle.ask_model.specs.declared.AskStop.TheVariants.{Fault, Diverged, TraceFull, LogFull, Memory}
 use Rattle.ask_model.specs.declared.Refused.{Refused}
-use Rattle.ask_model.specs.Asker.{Seen, Pairs}
+use Rattle.turk_base.specs.declared.Record.TheVariants.{Draw}
+use Rattle.record_bytes.specs.Limits.{IsDraw}
+use Rattle.ask_model.specs.Asker.{Seen, Pairs, entry}
 use Rattle.ask_model.specs.Draws.{draws_in, HaveWords}
 
 -- a table of this trace, replies, records made, path asked last and refusals
@@ -38,6 +40,15 @@ IsFull traced made (Diverged d) = ⊥
 IsFull traced made TraceFull = 65536 ≤ traced + length made
 IsFull traced made LogFull = ⊥
 IsFull traced made Memory = ⊤
+
+-- What a call that draws did, by its answer.
+pub record Drew {W : Type 0} (rest : W → ℕ → ℕ) (traced : ℕ) (path : List ℕ) (bound : ℤ) (old_draws new_draws : W) (made new : List Entry) (result : Result ℤ AskStop) : Type 0 where
+  pub value : IfOk result (λ v. v ≡ int_rem (pos (rest old_draws 0)) bound)
+  pub small : IfOk result (λ v. IsDraw bound v)
+  pub moves : OnOk result ((k : ℕ) → rest new_draws k ≡ rest old_draws (1 + k))
+  pub added : IfOk result (λ v. Added traced (entry path (Draw bound v)) made new None)
+  pub stays : OnErr result (new_draws ≡ old_draws)
+  pub refused : IfErr result (λ stop. (e : Entry) → Added traced e made new (Some stop))
 
 -- the path asked last, where one was
 abbrev pub asked_of : Bool → List ℕ → Option (List ℕ)

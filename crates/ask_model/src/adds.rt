@@ -1,10 +1,9 @@
 //! One record more in a table.
-ghost use Rattle.std.specs.Prelude.{◌≡◌, ◌+◌, ◌≤◌, ◌<◌, ◌≤ℤ◌, ℕ, pos, int_rem, Some, None, length, IfOk, IfErr, OnOk, OnErr, vec_len, vec_capacity};
-ghost use Rattle.turk_base.specs.declared.Entry.{Entry};
-ghost use Rattle.turk_base.specs.declared.Record.TheVariants.{Post, Reply, Draw, Once};
+ghost use Rattle.std.specs.Prelude.{◌≡◌, ◌+◌, ◌≤◌, ◌<◌, ◌≤ℤ◌, ℕ, pos, int_rem, Some, None, length, IfOk, IfErr, OnOk, vec_len, vec_capacity};
+ghost use Rattle.turk_base.specs.declared.Record.TheVariants.{Post, Reply, Once};
 ghost use Rattle.record_bytes.specs.Limits.{IsDraw};
 ghost use Rattle.ask_model.specs.Asker.{entry, stop_of};
-ghost use Rattle.ask_model.specs.Table.{Added, IsFull};
+ghost use Rattle.ask_model.specs.Table.{Added, IsFull, Drew};
 
 use crate::AskStop;
 use outside::Draws;
@@ -45,7 +44,7 @@ fn add(traced: usize, made: &mut Vec<Entry>, what: Entry) -> Result<(), AskStop>
     }
 }
 
-fn entry_of(alloc: Global, path: &Path, what: Record) -> Result<Entry, NoMemory>
+pub fn entry_of(alloc: Global, path: &Path, what: Record) -> Result<Entry, NoMemory>
     ensures { IfOk result (λ e. e ≡ entry path.now what) }
 {
     let path = path.copy(alloc)?;
@@ -103,7 +102,7 @@ pub fn add_once(
     }
 }
 
-fn reply_of(alloc: Global, token: &Units, text: &Units) -> Result<Record, NoMemory>
+pub fn reply_of(alloc: Global, token: &Units, text: &Units) -> Result<Record, NoMemory>
     ensures { IfOk result (λ r. r ≡ Reply token.now text.now) }
 {
     let token = token.copy(alloc)?;
@@ -137,7 +136,7 @@ pub fn add_reply(
 }
 
 // The next word modulo the bound.
-fn word_below<W: Draws>(draws: &mut W, bound: Whole) -> Whole
+pub fn word_below<W: Draws>(draws: &mut W, bound: Whole) -> Whole
     requires { pos 1 ≤ℤ bound }
     ensures value { result ≡ int_rem (pos (W.rest draws.old 0)) bound }
     ensures small { IsDraw bound result }
@@ -159,12 +158,7 @@ pub fn add_draw<W: Draws>(
 ) -> Result<Whole, AskStop>
     requires few { traced + length made.old.items ≤ 65536 }
     requires bound { pos 1 ≤ℤ bound }
-    ensures value { IfOk result (λ v. v ≡ int_rem (pos (W.rest draws.old 0)) bound) }
-    ensures small { IfOk result (λ v. IsDraw bound v) }
-    ensures moves { OnOk result ((k : ℕ) → W.rest draws.new k ≡ W.rest draws.old (1 + k)) }
-    ensures added { IfOk result (λ v. Added traced (entry path.now (Draw bound v)) made.old.items made.new.items None) }
-    ensures stays { OnErr result (draws.new ≡ draws.old) }
-    ensures refused { IfErr result (λ stop. (e : Entry) → Added traced e made.old.items made.new.items (Some stop)) }
+    ensures { Drew W.rest traced path.now bound draws.old draws.new made.old.items made.new.items result }
 {
     let Ok(path) = path.copy(alloc) else {
         return Err(AskStop::Memory);

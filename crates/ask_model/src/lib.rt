@@ -9,6 +9,8 @@ use turk_base::{Path, Units, Whole};
 mod adds;
 mod asked;
 mod asker;
+#[cfg(test)]
+mod recorder;
 mod scans;
 mod table;
 

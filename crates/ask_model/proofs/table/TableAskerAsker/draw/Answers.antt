@@ -6,7 +6,7 @@ use Rattle.ask_model.specs.declared.AskStop.{AskStop}
 use Rattle.ask_model.specs.declared.Refused.{Refused}
 use Rattle.ask_model.specs.Asker.{entry, stop_of, refused_after, Adds}
 use Rattle.ask_model.specs.Table.{table}
-use Rattle.ask_model.proofs.Tables.{sound_by, adds_by, no_board_by, Drew, value_in, drew_added, drew_small, drew_keeps, drew_is, least_draw, refused_is}
+use Rattle.ask_model.proofs.Tables.{sound_by, adds_by, no_board_by, value_in, drew_added, drew_small, drew_keeps, drew_is, least_draw, refused_is}
 use Rattle.ask_model.proofs.table.TableAskerAsker.draw.Goals as goal
 
 pub returns-clause-drawn : goal.returns-clause-drawn
@@ -14,10 +14,9 @@ returns-clause-drawn g c =
     let s = c.args.self.now in
     let path = c.args.path.now in
     let bound = c.args.bound in
-    let e = c.add_draw-result.ensures in
     let new = c.add_draw-result.new.made.items in
     let r : Result ℤ AskStop = c.add_draw-result.result in
-    let drew : Drew g.W.Draws.rest c.len.result path bound s.draws.now c.add_draw-result.new.draws s.made.items new r = record { value = e.value; small = e.small; moves = e.moves; added = e.added; stays = e.stays; refused = e.refused } in
+    let drew = c.add_draw-result.ensures in
     let count : c.len.result ≡ length s.trace.items = search rules in
     let whole : IsWhole bound = search rules in
     record {
@@ -35,10 +34,9 @@ returns-clause-no_board g c =
     let s = c.args.self.now in
     let path = c.args.path.now in
     let bound = c.args.bound in
-    let e = c.add_draw-result.ensures in
     let new = c.add_draw-result.new.made.items in
     let r : Result ℤ AskStop = c.add_draw-result.result in
-    let drew : Drew g.W.Draws.rest c.len.result path bound s.draws.now c.add_draw-result.new.draws s.made.items new r = record { value = e.value; small = e.small; moves = e.moves; added = e.added; stays = e.stays; refused = e.refused } in
+    let drew = c.add_draw-result.ensures in
     no_board_by c.len.result (entry path (Draw bound (value_in r))) s.made.items new (stop_of r) (drew_added g.W.Draws.rest c.len.result s.made.items new path bound _ _ r drew)
 
 pub returns-clause-sound : goal.returns-clause-sound
@@ -46,10 +44,9 @@ returns-clause-sound g c =
     let s = c.args.self.now in
     let path = c.args.path.now in
     let bound = c.args.bound in
-    let e = c.add_draw-result.ensures in
     let new = c.add_draw-result.new.made.items in
     let r : Result ℤ AskStop = c.add_draw-result.result in
-    let drew : Drew g.W.Draws.rest c.len.result path bound s.draws.now c.add_draw-result.new.draws s.made.items new r = record { value = e.value; small = e.small; moves = e.moves; added = e.added; stays = e.stays; refused = e.refused } in
+    let drew = c.add_draw-result.ensures in
     let count : c.len.result ≡ length s.trace.items = search rules in
     let whole : IsWhole bound = search rules in
     let small = drew_small g.W.Draws.rest c.len.result s.made.items new path bound _ _ r (least_draw bound c.requires.bound whole) drew in
@@ -62,8 +59,7 @@ returns-clause-keeps g c =
     let s = c.args.self.now in
     let path = c.args.path.now in
     let bound = c.args.bound in
-    let e = c.add_draw-result.ensures in
     let new = c.add_draw-result.new.made.items in
     let r : Result ℤ AskStop = c.add_draw-result.result in
-    let drew : Drew g.W.Draws.rest c.len.result path bound s.draws.now c.add_draw-result.new.draws s.made.items new r = record { value = e.value; small = e.small; moves = e.moves; added = e.added; stays = e.stays; refused = e.refused } in
+    let drew = c.add_draw-result.ensures in
     drew_keeps g.W.Draws.rest c.len.result s.made.items new path bound s.draws _ r refl drew
