@@ -45,7 +45,7 @@ first_apart f es p none is =
     let found = at_hit f es p is in
     cc
 
-at_push : (es : List Entry) (e : Entry) (p : List ℕ) → nothing_at es p → e.path ≢ p → nothing_at (es ++ e ∷ []) p
+pub at_push : (es : List Entry) (e : Entry) (p : List ℕ) → nothing_at es p → e.path ≢ p → nothing_at (es ++ e ∷ []) p
 at_push [] e p none apart = at_skip e [] p apart
 at_push (f ∷ es) e p none apart =
     let far = first_apart f es p none in

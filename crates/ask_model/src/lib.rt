@@ -10,9 +10,13 @@ mod adds;
 mod asked;
 mod asker;
 #[cfg(test)]
+mod asks;
+#[cfg(test)]
 mod recorder;
 mod scans;
 mod table;
+#[cfg(test)]
+mod tests;
 
 pub use asker::Asker;
 pub use table::TableAsker;
