@@ -6,7 +6,7 @@ ghost use Rattle.ask_model.specs.Asker.{entry, IsTrace, AreReplies};
 
 use crate::asks::{draw_at, known_at, once_at, post_at, reply_at};
 use crate::recorder::{Desk, Recorder, Shelf};
-use crate::{AskStop, Asker, Kept, Known, TableAsker, Which};
+use crate::{AskStop, Asker, Known, TableAsker, Which};
 use outside::{Draws, PcgDraws};
 use std::alloc::Global;
 use std::test::Fail;
@@ -166,5 +166,33 @@ fn a_table_holds_65536_records(rt: HostRuntime) -> Result<(), Fail> {
     let trace = draws_made(alloc, 65_535)?;
     let mut asker = TableAsker::new(alloc, trace, &replies, &mut draws)?;
     assert!(rt; matches!(fills_up(alloc, &mut asker), Ok(true)));
+    Ok(())
+}
+
+fn desk(alloc: Global) -> Desk {
+    Desk {
+        tasks: Replies::new(alloc),
+        is_down: false,
+        faults: 0,
+    }
+}
+
+fn is_fault(answer: Result<bool, AskStop>, device: Which) -> bool {
+    match answer {
+        Err(AskStop::Fault(which)) => which == device,
+        _ => false,
+    }
+}
+
+#[test]
+fn a_recorder_fails_as_its_list_does(rt: HostRuntime) -> Result<(), Fail> {
+    let alloc = rt.alloc();
+    let replies = one_reply(alloc)?;
+    let mut draws = PcgDraws::new();
+    let mut shelf = Shelf::new(Vec::new(alloc), 9, 1)?;
+    let mut desk = desk(alloc);
+    let mut asker = Recorder::new(alloc, &mut shelf, &mut desk, &mut draws, &replies)?;
+    assert!(rt; matches!(knows_a_post(alloc, &mut asker), Ok(true)));
+    assert!(rt; is_fault(gives_the_reply(alloc, &mut asker), Which::Disk));
     Ok(())
 }
