@@ -1,0 +1,160 @@
+-- How steps of a program follow from what the calls on a heap did.
+use Rattle.std.proofs.Common.{◌≡◌, ◌∙◌, subst, refl, sym, ap, ℕ, zero, suc, ◌+◌, ◌-◌, ◌<◌, ◌≤◌, List, [], ◌∷◌, length, Bool, true, false, nat_lt, cond, Option, Some, None, Result, Ok, Err, arith, IsErrAnd, ℤ, pos, codes}
+use Rattle.std.proofs.lemmas.Bool.Decides.{nat_tests}
+use Rattle.turk_base.specs.Names.{Name, cell, root, Units}
+use Rattle.turk_base.specs.Values as model
+use Rattle.turk_base.specs.Values.{Val, Kind, Refusal, Outcome, Normal}
+use Rattle.turk_base.specs.Prog.{Prim, Pay, KindOf, Make, Get, Put, Remove, AnswerOf, Prog, Done, Ask, ask, value, refuse, given, made, text_limit}
+use Rattle.turk_base.specs.Conversions.{text_in}
+use Rattle.turk_base.specs.Errors.{text_from}
+use Rattle.turk_base.specs.BuiltIns.{count_up, set_length}
+use Rattle.convert_rules.specs.declared.kinds.Prim.{Prim as CodePrim}
+use Rattle.convert_rules.specs.Prims.{val_of}
+use Rattle.value_cells.specs.declared.Value.{Value}
+use Rattle.value_cells.specs.declared.Value.TheVariants as code
+use Rattle.value_cells.specs.declared.OpStop.{OpStop}
+use Rattle.value_cells.specs.declared.OpStop.TheVariants.{NotWhole, NoPrimitive, TooLong, Spent, Memory}
+use Rattle.value_cells.specs.Seen.{Naming, Seen, Fits, val_in}
+use Rattle.value_cells.specs.Does.{Told, Says, Does, Onward, Runs, told, told_stop}
+use Rattle.value_cells.proofs.Turns.{asks, asks_out, onward_then, onward_same, ended, refused, failed}
+use Rattle.builtin_calls.specs.Gives.{Step, Leads, Leaves, Gives, Takes, Answers, IsPrimitive}
+
+-- ---- steps of a program one after another
+
+pub leads_same : {A : Type 0} {f g : Naming → Step A} {s : Seen} → ((nu : Naming) (go : A → Prog) → f nu go ≡ g nu go) → Leads f g s s
+leads_same {A} {f} {g} {s} e = record { goes = λ go. subst (λ h. Onward (λ nu. f nu (go nu)) h s s) (λ i nu. e nu (go nu) i) (onward_same {f = λ nu. f nu (go nu)}) }
+
+pub leads_then : {A : Type 0} {f g h : Naming → Step A} {s t u : Seen} → Leads f g s t → Leads g h t u → Leads f h s u
+leads_then x y = record { goes = λ go. onward_then (x.goes go) (y.goes go) }
+
+pub leads_out : {A : Type 0} {f g : Naming → Step A} {s t u : Seen} {e : OpStop} → Leads f g s t → Leaves g e t u → Leaves f e s u
+leads_out {A} {f} {g} {s} {t} {u} {e} x y = record { ends = λ go. (x.goes go).goes (λ nu. told_stop e) u (y.ends go) }
+
+-- a step that goes on with another
+pub gives_on : {A B : Type 0} {f : Naming → Step A} {a : Naming → A} {s t : Seen} → Gives f a s t → (k : Naming → A → Step B) → Leads (λ nu go. f nu (λ a. k nu a go)) (λ nu. k nu (a nu)) s t
+gives_on x k = record { goes = λ go. x.goes (λ nu a. k nu a (go nu)) }
+
+pub leaves_on : {A B : Type 0} {f : Naming → Step A} {e : OpStop} {s t : Seen} → Leaves f e s t → (k : Naming → A → Step B) → Leaves (λ nu go. f nu (λ a. k nu a go)) e s t
+leaves_on x k = record { ends = λ go. x.ends (λ nu a. k nu a (go nu)) }
+
+pub leaves_lost : {A : Type 0} {f : Naming → Step A} {s : Seen} → Leaves f Memory s s
+leaves_lost {A} {f} {s} = record { ends = λ go. failed }
+
+-- ---- the exit of a `?`
+
+pub takes_out : {A B : Type 0} {f : Naming → Step A} {s t : Seen} {e : OpStop} (h : Naming → B → A) (r : Result B OpStop) → IsErrAnd r (λ x. x ≡ e) → Leaves f e s t → Takes f h r s t
+takes_out h (Ok b) m x = absurd m
+takes_out {A} {B} {f} {s} {t} {e} h (Err y) m x = subst (λ y. Leaves f y s t) (sym m) x
+
+pub runs_out : {B : Type 0} {f : Naming → Prog} {s t : Seen} (h : Naming → B → Outcome) (e : OpStop) (r : Result B OpStop) → IsErrAnd r (λ x. x ≡ e) → Runs f (λ nu. told_stop e) s t → Runs f (λ nu. told (h nu) r) s t
+runs_out h e (Ok b) m x = absurd m
+runs_out {B} {f} {s} {t} h e (Err y) m x = subst (λ y. Runs f (λ nu. told_stop y) s t) (sym m) x
+
+-- ---- requests, under a key that is another's equal
+
+pub get_takes : {B : Type 0} {cell : ℕ} {key : Units} {s t : Seen} (h : Naming → B → Option Val) (k : Units) (r : Result B OpStop) → key ≡ k
+    → Does (λ nu. Get (nu cell) key) (λ nu. told (h nu) r) s t → Takes (λ nu. ask (Get (nu cell) k)) h r s t
+get_takes {B} {cell} {key} {s} {t} h k (Ok b) e d = subst (λ k. Takes (λ nu. ask (Get (nu cell) k)) h (Ok b) s t) e (record { goes = λ go. asks {p = λ nu. Get (nu cell) key} {a = λ nu. h nu b} {go = go} d })
+get_takes {B} {cell} {key} {s} {t} h k (Err x) e d = subst (λ k. Takes (λ nu. ask (Get (nu cell) k)) h (Err x) s t) e (record { ends = λ go. asks_out {p = λ nu. Get (nu cell) key} {go = go} x d })
+
+pub put_takes : {cell : ℕ} {key : Units} {v : Naming → Val} {s t : Seen} (h : Naming → Unit {0} → Unit {0}) (k : Units) (r : Result (Unit {0}) OpStop) → key ≡ k
+    → Does (λ nu. Put (nu cell) key (v nu)) (λ nu. told (h nu) r) s t → Takes (λ nu. ask (Put (nu cell) k (v nu))) h r s t
+put_takes {cell} {key} {v} {s} {t} h k (Ok b) e d = subst (λ k. Takes (λ nu. ask (Put (nu cell) k (v nu))) h (Ok b) s t) e (record { goes = λ go. asks {p = λ nu. Put (nu cell) key (v nu)} {a = λ nu. h nu b} {go = go} d })
+put_takes {cell} {key} {v} {s} {t} h k (Err x) e d = subst (λ k. Takes (λ nu. ask (Put (nu cell) k (v nu))) h (Err x) s t) e (record { ends = λ go. asks_out {p = λ nu. Put (nu cell) key (v nu)} {go = go} x d })
+
+pub remove_takes : {cell : ℕ} {key : Units} {s t : Seen} (h : Naming → Bool → Bool) (k : Units) (r : Result Bool OpStop) → key ≡ k
+    → Does (λ nu. Remove (nu cell) key) (λ nu. told (h nu) r) s t → Takes (λ nu. ask (Remove (nu cell) k)) h r s t
+remove_takes {cell} {key} {s} {t} h k (Ok b) e d = subst (λ k. Takes (λ nu. ask (Remove (nu cell) k)) h (Ok b) s t) e (record { goes = λ go. asks {p = λ nu. Remove (nu cell) key} {a = λ nu. h nu b} {go = go} d })
+remove_takes {cell} {key} {s} {t} h k (Err x) e d = subst (λ k. Takes (λ nu. ask (Remove (nu cell) k)) h (Err x) s t) e (record { ends = λ go. asks_out {p = λ nu. Remove (nu cell) key} {go = go} x d })
+
+pub pay_takes : {n : ℕ} {s t : Seen} (h : Naming → Unit {0} → Unit {0}) (m : ℕ) (r : Result (Unit {0}) OpStop) → n ≡ m
+    → Does (λ nu. Pay n) (λ nu. told (h nu) r) s t → Takes (λ nu. ask (Pay m)) h r s t
+pay_takes {n} {s} {t} h m (Ok b) e d = subst (λ n. Takes (λ nu. ask (Pay n)) h (Ok b) s t) e (record { goes = λ go. asks {p = λ nu. Pay n} {a = λ nu. h nu b} {go = go} d })
+pay_takes {n} {s} {t} h m (Err x) e d = subst (λ n. Takes (λ nu. ask (Pay n)) h (Err x) s t) e (record { ends = λ go. asks_out {p = λ nu. Pay n} {go = go} x d })
+
+-- ---- what is computed of values alone
+
+pub refuse_leaves : {A : Type 0} {s : Seen} (why : Refusal) (e : OpStop) → (told_stop {A = Outcome} e ≡ told_stop e) → {f : Naming → Step A} → ((nu : Naming) (go : A → Prog) → f nu go ≡ refuse why)
+    → Runs (λ nu. refuse why) (λ nu. told_stop e) s s → Leaves f e s s
+refuse_leaves {A} {s} why e m {f} same r = record { ends = λ go. subst (λ h. Runs h (λ nu. told_stop e) s s) (λ i nu. sym (same nu (go nu)) i) r }
+
+pub given_takes : {A B : Type 0} (x : Naming → Result A Refusal) (h : B → A) (s : Seen) (r : Result B OpStop) → ((nu : Naming) → Answers h r (x nu)) → Takes (λ nu. given (x nu)) (λ nu. h) r s s
+given_takes {A} {B} x h s (Ok b) e = leads_same (λ nu go. ap (λ x. given x go) (e nu))
+given_takes {A} {B} x h s (Err NotWhole) e = refuse_leaves model.NotWhole NotWhole refl (λ nu go. ap (λ x. given x go) (e nu)) refused
+given_takes {A} {B} x h s (Err NoPrimitive) e = refuse_leaves model.NoPrimitive NoPrimitive refl (λ nu go. ap (λ x. given x go) (e nu)) refused
+given_takes {A} {B} x h s (Err TooLong) e = refuse_leaves model.TooLong TooLong refl (λ nu go. ap (λ x. given x go) (e nu)) refused
+given_takes {A} {B} x h s (Err Spent) e = absurd (e (λ i. cell root 0))
+given_takes {A} {B} x h s (Err Memory) e = leaves_lost
+
+-- ---- a text that is made
+
+made_long : (t : Units) (go : Units → Prog) → text_limit < length t → made t go ≡ refuse model.TooLong
+made_long t go h = let yes : nat_lt text_limit (length t) ≡ true = grind (arith, nat_tests) in ap (λ b. cond b (refuse model.TooLong) (Ask (Pay (length t)) (λ _. go t))) yes
+
+made_short : (t : Units) (go : Units → Prog) → length t ≤ text_limit → made t go ≡ Ask (Pay (length t)) (λ _. go t)
+made_short t go h = let no : nat_lt text_limit (length t) ≡ false = grind (arith, nat_tests) in ap (λ b. cond b (refuse model.TooLong) (Ask (Pay (length t)) (λ _. go t))) no
+
+pub too_long : {s : Seen} (t : Units) → text_limit < length t → Leaves (λ nu. made t) TooLong s s
+too_long t h = refuse_leaves model.TooLong TooLong refl (λ nu go. made_long t go h) refused
+
+pub paid_leads : {s : Seen} (t : Units) → length t ≤ text_limit → Leads (λ nu. made t) (λ nu go. ask (Pay (length t)) (λ _. go t)) s s
+paid_leads t h = leads_same (λ nu go. made_short t go h)
+
+-- ---- turns, as many as a count says
+
+module _ {whole : Naming → Step (Unit {0})} {s t : Seen} (turn : Naming → ℕ → Step (Unit {0})) (n i : ℕ) (so_far : Leads whole (λ nu. count_up (n - i) i (turn nu)) s t) where
+  next : i < n → (nu : Naming) (go : Unit {0} → Prog) → count_up (n - i) i (turn nu) go ≡ turn nu i (λ _. count_up (n - (i + 1)) (i + 1) (turn nu) go)
+  next h nu go = let e : n - i ≡ suc (n - (i + 1)) = omega arith in let f : suc i ≡ i + 1 = omega arith in ap (λ k. count_up k i (turn nu) go) e ∙ ap (λ j. turn nu i (λ _. count_up (n - (i + 1)) j (turn nu) go)) f
+
+  pub turn_goes : {u : Seen} → i < n → Gives (λ nu. turn nu i) (λ nu. tt) t u → Leads whole (λ nu. count_up (n - (i + 1)) (i + 1) (turn nu)) s u
+  turn_goes h x = leads_then so_far (leads_then (leads_same (next h)) (gives_on x (λ nu a. count_up (n - (i + 1)) (i + 1) (turn nu))))
+
+  pub turn_out : {u : Seen} {e : OpStop} → i < n → Leaves (λ nu. turn nu i) e t u → Leaves whole e s u
+  turn_out h x = leads_out so_far (leads_out (leads_same (next h)) (leaves_on x (λ nu a. count_up (n - (i + 1)) (i + 1) (turn nu))))
+
+  pub turns_end : n ≤ i → Gives whole (λ nu. tt) s t
+  turns_end h = let e : n - i ≡ 0 = omega arith in leads_then so_far (leads_same (λ nu go. ap (λ k. count_up k i (turn nu) go) e))
+
+-- ---- what another step leads to
+
+pub takes_as : {A B : Type 0} {f g : Naming → Step A} {s t : Seen} (u : Seen) (h : Naming → B → A) (r : Result B OpStop) → Leads f g s t → Takes g h r t u → Takes f h r s u
+takes_as u h (Ok b) x y = leads_then x y
+takes_as u h (Err e) x y = leads_out x y
+
+pub length_takes : {cell : ℕ} {key : Units} {z : ℤ} {s t : Seen} (n : ℕ) (r : Result (Unit {0}) OpStop) → key ≡ codes "length" → z ≡ pos n
+    → Does (λ nu. Put (nu cell) key (model.Number z)) (λ nu. told (λ u. u) r) s t → Takes (λ nu. set_length (nu cell) n) (λ nu u. u) r s t
+length_takes {cell} {key} {z} {s} {t} n (Ok b) e w d = subst (λ z. Takes (λ nu go. Ask (Put (nu cell) (codes "length") (model.Number z)) (λ _. go tt)) (λ nu u. u) (Ok b) s t) w
+    (gives_on (put_takes (λ nu u. u) (codes "length") (Ok b) e d) (λ nu a go. go tt))
+length_takes {cell} {key} {z} {s} {t} n (Err x) e w d = subst (λ z. Takes (λ nu go. Ask (Put (nu cell) (codes "length") (model.Number z)) (λ _. go tt)) (λ nu u. u) (Err x) s t) w
+    (leaves_on (put_takes (λ nu u. u) (codes "length") (Err x) e d) (λ nu a go. go tt))
+
+-- ---- the text of a primitive
+
+IsText : Value → Type 0
+IsText (code.Text t) = Unit {0}
+IsText v = ⊥
+
+text_given : (nu : Naming) (v : Value) (go : Units → Prog) → ¬ (IsText v) → text_from (val_in nu v) go ≡ given (text_in (val_in nu v)) (λ t. made t go)
+unfolding IsText
+text_given nu code.Undefined go n = refl
+text_given nu code.Null go n = refl
+text_given nu (code.Truth b) go n = refl
+text_given nu (code.Number z) go n = refl
+text_given nu (code.Text t) go n = absurd (n tt)
+text_given nu (code.Object c) go n = refl
+
+no_text : (v : Value) → ((t : Units) → v ≡ code.Text t → ⊥) → ¬ (IsText v)
+unfolding IsText
+no_text code.Undefined n = λ x. x
+no_text code.Null n = λ x. x
+no_text (code.Truth b) n = λ x. x
+no_text (code.Number z) n = λ x. x
+no_text (code.Text t) n = λ x. n t refl
+no_text (code.Object c) n = λ x. x
+
+pub text_leads : {s : Seen} (v : Value) (p : CodePrim) (t : Units) → ((t : Units) → v ≡ code.Text t → ⊥) → ((nu : Naming) → IsPrimitive (Some p) (val_in nu v)) → text_in (val_of p) ≡ Ok t
+    → Leads (λ nu. text_from (val_in nu v)) (λ nu. made t) s s
+text_leads v p t n is e = leads_same (λ nu go. text_given nu v go (no_text v n) ∙ ap (λ x. given x (λ t. made t go)) (ap text_in (sym (is nu)) ∙ e))
+
+pub text_refused : {s : Seen} (v : Value) → ((nu : Naming) → IsPrimitive None (val_in nu v)) → Leaves (λ nu. text_from (val_in nu v)) NoPrimitive s s
+text_refused v is = refuse_leaves model.NoPrimitive NoPrimitive refl (λ nu go. let x = is nu in ap (λ v. text_from v go) x.1) refused
