@@ -158,3 +158,15 @@ text_leads v p t n is e = leads_same (λ nu go. text_given nu v go (no_text v n)
 
 pub text_refused : {s : Seen} (v : Value) → ((nu : Naming) → IsPrimitive None (val_in nu v)) → Leaves (λ nu. text_from (val_in nu v)) NoPrimitive s s
 text_refused v is = refuse_leaves model.NoPrimitive NoPrimitive refl (λ nu go. let x = is nu in ap (λ v. text_from v go) x.1) refused
+
+-- ---- whole programs
+
+pub onward_eq : {f g : Naming → Prog} {s : Seen} → ((nu : Naming) → f nu ≡ g nu) → Onward f g s s
+onward_eq {f} {g} {s} e = subst (λ h. Onward f h s s) (λ i nu. e nu i) (onward_same {f = f})
+
+pub onward_out : {f g : Naming → Prog} {s t u : Seen} (e : OpStop) → Onward f g s t → Runs g (λ nu. told_stop e) t u → Runs f (λ nu. told_stop e) s u
+onward_out {f} {g} {s} {t} {u} e x y = x.goes (λ nu. told_stop e) u y
+
+-- it ends with a value
+pub runs_value : {f : Naming → Prog} {s t : Seen} (x y : Naming → Val) → Onward f (λ nu. value (x nu)) s t → ((nu : Naming) → x nu ≡ y nu) → Runs f (λ nu. Says (Normal (y nu))) s t
+runs_value {f} {s} {t} x y o e = subst (λ (y : Naming → Val). Runs f (λ nu. Says (Normal (y nu))) s t) (λ i nu. e nu i) (o.goes (λ nu. Says (Normal (x nu))) t ended)

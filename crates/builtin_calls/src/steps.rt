@@ -5,7 +5,7 @@ ghost use Rattle.turk_base.specs.Conversions.{integer_in};
 ghost use Rattle.turk_base.specs.Values.{Number};
 ghost use Rattle.turk_base.specs.Prog.{Get, Put, Remove, ask, made};
 ghost use Rattle.turk_base.specs.Errors.{index_text, text_from};
-ghost use Rattle.turk_base.specs.BuiltIns.{length_of, set_length, natural_in};
+ghost use Rattle.turk_base.specs.BuiltIns.{length_of, set_length, natural_in, end_in};
 ghost use Rattle.value_cells.specs.Needs.{needs, option_needs};
 ghost use Rattle.value_cells.specs.Seen.{Naming, count, val_in};
 ghost use Rattle.builtin_calls.specs.Gives.{Takes, Answers, IsPrimitive};
@@ -181,4 +181,15 @@ pub fn position(alloc: Global, value: &Value) -> Result<Whole, OpStop>
             Reading::Outside => Err(OpStop::NotWhole),
         },
     }
+}
+
+/// A position that ends a part: a length for undefined.
+pub fn end_position(alloc: Global, value: &Value, length: u64) -> Result<Whole, OpStop>
+    requires { length ≤ 2 ^ 53 }
+    ensures { (nu : Naming) → Answers (λ z. z) result (end_in (val_in nu value.now) length) }
+{
+    if let Value::Undefined = value {
+        return Ok(whole(length));
+    }
+    position(alloc, value)
 }
