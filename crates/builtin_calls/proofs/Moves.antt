@@ -7,7 +7,7 @@ use Rattle.turk_base.specs.Values.{Val, Kind, Refusal, Outcome, Normal}
 use Rattle.turk_base.specs.Prog.{Prim, Pay, KindOf, Make, Get, Put, Remove, AnswerOf, Prog, Done, Ask, ask, value, refuse, given, made, text_limit}
 use Rattle.turk_base.specs.Conversions.{text_in}
 use Rattle.turk_base.specs.Errors.{text_from}
-use Rattle.turk_base.specs.BuiltIns.{count_up, set_length}
+use Rattle.turk_base.specs.BuiltIns.{count_up, set_length, separator_in, item_text}
 use Rattle.convert_rules.specs.declared.kinds.Prim.{Prim as CodePrim}
 use Rattle.convert_rules.specs.Prims.{val_of}
 use Rattle.value_cells.specs.declared.Value.{Value}
@@ -170,3 +170,29 @@ onward_out {f} {g} {s} {t} {u} e x y = x.goes (λ nu. told_stop e) u y
 -- it ends with a value
 pub runs_value : {f : Naming → Prog} {s t : Seen} (x y : Naming → Val) → Onward f (λ nu. value (x nu)) s t → ((nu : Naming) → x nu ≡ y nu) → Runs f (λ nu. Says (Normal (y nu))) s t
 runs_value {f} {s} {t} x y o e = subst (λ (y : Naming → Val). Runs f (λ nu. Says (Normal (y nu))) s t) (λ i nu. e nu i) (o.goes (λ nu. Says (Normal (x nu))) t ended)
+
+-- ---- want of memory
+
+pub out_lost : {A : Type 0} {f g : Naming → Step A} {s t : Seen} → Leads f g s t → Leaves f Memory s t
+out_lost x = leads_out x leaves_lost
+
+pub runs_lost : {f g : Naming → Prog} {s t : Seen} → Onward f g s t → Runs f (λ nu. told_stop Memory) s t
+runs_lost {f} {g} {s} {t} x = onward_out Memory x failed
+
+-- ---- values that are not undefined, nor null
+
+pub other_separator : {s : Seen} (v : Value) → (v ≡ code.Undefined → ⊥) → Leads (λ nu. separator_in (val_in nu v)) (λ nu. text_from (val_in nu v)) s s
+other_separator code.Undefined n = absurd (n refl)
+other_separator code.Null n = leads_same (λ nu go. refl)
+other_separator (code.Truth b) n = leads_same (λ nu go. refl)
+other_separator (code.Number z) n = leads_same (λ nu go. refl)
+other_separator (code.Text t) n = leads_same (λ nu go. refl)
+other_separator (code.Object c) n = leads_same (λ nu go. refl)
+
+pub other_item : {s : Seen} (v : Value) → (v ≡ code.Undefined → ⊥) → (v ≡ code.Null → ⊥) → Leads (λ nu. item_text (Some (val_in nu v))) (λ nu. text_from (val_in nu v)) s s
+other_item code.Undefined n m = absurd (n refl)
+other_item code.Null n m = absurd (m refl)
+other_item (code.Truth b) n m = leads_same (λ nu go. refl)
+other_item (code.Number z) n m = leads_same (λ nu go. refl)
+other_item (code.Text t) n m = leads_same (λ nu go. refl)
+other_item (code.Object c) n m = leads_same (λ nu go. refl)

@@ -1,5 +1,5 @@
 //! The calls on arrays (ECMA-262 3rd ed. 15.4.4.4 to 15.4.4.8, 15.4.4.10).
-ghost use Rattle.std.specs.Prelude.{◌≡◌, ◌<◌, ◌≤◌, ◌+◌, ◌-◌, ◌/◌, ◌^◌, ◌∷◌, ◌++◌, [], map, IfOk, if◌then◌else◌, ◌==◌};
+ghost use Rattle.std.specs.Prelude.{◌≡◌, ◌<◌, ◌≤◌, ◌+◌, ◌-◌, ◌/◌, ◌^◌, ◌∷◌, ◌++◌, [], map, IfOk, Some, if◌then◌else◌, ◌==◌};
 ghost use Rattle.std.specs.Option.{option_map};
 ghost use Rattle.turk_base.specs.Values.{Normal, Object};
 ghost use Rattle.turk_base.specs.Prog.{Get, Put, ask};
@@ -87,14 +87,26 @@ fn separator_text<H: Heap>(alloc: Global, heap: &mut H, value: &Value) -> Result
     text_of(alloc, heap, value)
 }
 
-/// The text of an element: empty for a hole, undefined and null.
+/// The text of a value that is an element: empty for undefined and null.
+fn value_text<H: Heap>(alloc: Global, heap: &mut H, value: &Value) -> Result<Units, OpStop>
+    ensures did { Takes (λ nu. spec.item_text (Some (val_in nu value.now))) (λ nu t. t) result (H.seen heap.old) (H.seen heap.new) }
+    ensures more { count (H.seen heap.old) ≤ count (H.seen heap.new) }
+{
+    match value {
+        Value::Undefined => Ok(Units::new(alloc)),
+        Value::Null => Ok(Units::new(alloc)),
+        _ => text_of(alloc, heap, value),
+    }
+}
+
+/// The text of an element, empty for a hole.
 fn item_text<H: Heap>(alloc: Global, heap: &mut H, item: &Option<Value>) -> Result<Units, OpStop>
     ensures did { Takes (λ nu. spec.item_text (option_map (val_in nu) item.now)) (λ nu t. t) result (H.seen heap.old) (H.seen heap.new) }
     ensures more { count (H.seen heap.old) ≤ count (H.seen heap.new) }
 {
     match item {
-        None | Some(Value::Undefined) | Some(Value::Null) => Ok(Units::new(alloc)),
-        Some(value) => text_of(alloc, heap, value),
+        None => Ok(Units::new(alloc)),
+        Some(value) => value_text(alloc, heap, value),
     }
 }
 
