@@ -102,6 +102,9 @@ paid_leads t h = leads_same (λ nu go. made_short t go h)
 
 -- ---- turns, as many as a count says
 
+pub turns_start : {s : Seen} (turn : Naming → ℕ → Step (Unit {0})) (n : ℕ) → Leads (λ nu. count_up n 0 (turn nu)) (λ nu. count_up (n - 0) 0 (turn nu)) s s
+turns_start turn n = let e : n ≡ n - 0 = omega arith in leads_same (λ nu go. ap (λ k. count_up k 0 (turn nu) go) e)
+
 module _ {whole : Naming → Step (Unit {0})} {s t : Seen} (turn : Naming → ℕ → Step (Unit {0})) (n i : ℕ) (so_far : Leads whole (λ nu. count_up (n - i) i (turn nu)) s t) where
   next : i < n → (nu : Naming) (go : Unit {0} → Prog) → count_up (n - i) i (turn nu) go ≡ turn nu i (λ _. count_up (n - (i + 1)) (i + 1) (turn nu) go)
   next h nu go = let e : n - i ≡ suc (n - (i + 1)) = omega arith in let f : suc i ≡ i + 1 = omega arith in ap (λ k. count_up k i (turn nu) go) e ∙ ap (λ j. turn nu i (λ _. count_up (n - (i + 1)) j (turn nu) go)) f
