@@ -6,15 +6,18 @@ use Rattle.turk_base.specs.Values as model
 use Rattle.turk_base.specs.Values.{Val, Kind, Refusal, Outcome, Normal}
 use Rattle.turk_base.specs.Prog.{Prim, Pay, KindOf, Make, Get, Put, Remove, AnswerOf, Prog, Done, Ask, ask, value, refuse, given, made, text_limit}
 use Rattle.turk_base.specs.Conversions.{text_in}
-use Rattle.turk_base.specs.Errors.{text_from}
-use Rattle.turk_base.specs.BuiltIns.{count_up, set_length, separator_in, item_text}
+use Rattle.turk_base.specs.Errors.{text_from, index_text}
+use Rattle.turk_base.specs.BuiltIns.{count_up, set_length, separator_in, item_text, spread, put_found, add_piece}
+use Rattle.turk_base.specs.BuiltIns as spec
 use Rattle.convert_rules.specs.declared.kinds.Prim.{Prim as CodePrim}
 use Rattle.convert_rules.specs.Prims.{val_of}
 use Rattle.value_cells.specs.declared.Value.{Value}
 use Rattle.value_cells.specs.declared.Value.TheVariants as code
 use Rattle.value_cells.specs.declared.OpStop.{OpStop}
 use Rattle.value_cells.specs.declared.OpStop.TheVariants.{NotWhole, NoPrimitive, TooLong, Spent, Memory}
-use Rattle.value_cells.specs.Seen.{Naming, Seen, Fits, val_in}
+use Rattle.value_cells.specs.Seen.{Naming, Seen, val_in, kind_in}
+use Rattle.value_cells.specs.declared.CellKind.{CellKind}
+use Rattle.value_cells.specs.declared.CellKind.TheVariants as kind
 use Rattle.value_cells.specs.Does.{Told, Says, Does, Onward, Runs, told, told_stop}
 use Rattle.value_cells.proofs.Turns.{asks, asks_out, onward_then, onward_same, ended, refused, failed}
 use Rattle.builtin_calls.specs.Gives.{Step, Leads, Leaves, Gives, Takes, Answers, IsPrimitive}
@@ -199,3 +202,54 @@ other_item (code.Truth b) n m = leads_same (λ nu go. refl)
 other_item (code.Number z) n m = leads_same (λ nu go. refl)
 other_item (code.Text t) n m = leads_same (λ nu go. refl)
 other_item (code.Object c) n m = leads_same (λ nu go. refl)
+
+-- ---- cells
+
+pub make_takes : {s t : Seen} (k : CellKind) (r : Result ℕ OpStop) → Does (λ nu. Make (kind_in nu k)) (λ nu. told nu r) s t → Takes (λ nu. ask (Make (kind_in nu k))) (λ nu. nu) r s t
+make_takes k (Ok b) d = record { goes = λ go. asks {p = λ nu. Make (kind_in nu k)} {a = λ nu. nu b} {go = go} d }
+make_takes k (Err x) d = record { ends = λ go. asks_out {p = λ nu. Make (kind_in nu k)} {go = go} x d }
+
+pub kind_gives : {s : Seen} (at : ℕ) (k : CellKind) → Does (λ nu. KindOf (nu at)) (λ nu. Says (kind_in nu k)) s s → Gives (λ nu. ask (KindOf (nu at))) (λ nu. kind_in nu k) s s
+kind_gives at k d = record { goes = λ go. asks {p = λ nu. KindOf (nu at)} {a = λ nu. kind_in nu k} {go = go} d }
+
+-- ---- elements that are copied from or to the first index
+
+pub from_first : (a out : Name) (n at : ℕ) (go : Unit {0} → Prog) → spread out a n at go ≡ count_up n 0 (λ i next. ask (Get a (index_text (0 + i))) (λ v. put_found out (at + i) v next)) go
+from_first a out n at go = let z : (i : ℕ) → i ≡ 0 + i = λ i. omega arith in λ j. count_up n 0 (λ i next. ask (Get a (index_text (z i j))) (λ v. put_found out (at + i) v next)) go
+
+pub to_first : (a out : Name) (n low : ℕ) (go : Unit {0} → Prog) → count_up n 0 (λ i next. ask (Get a (index_text (low + i))) (λ v. put_found out i v next)) go
+    ≡ count_up n 0 (λ i next. ask (Get a (index_text (low + i))) (λ v. put_found out (0 + i) v next)) go
+to_first a out n low go = let z : (i : ℕ) → i ≡ 0 + i = λ i. omega arith in λ j. count_up n 0 (λ i next. ask (Get a (index_text (low + i))) (λ v. put_found out (z i j) v next)) go
+
+-- ---- pieces that are put as one value
+
+pub other_kind : {s : Seen} (out i at : ℕ) (k : CellKind) → (k ≡ kind.Array → ⊥)
+    → Leads (λ nu. add_piece (nu out) (model.Object (nu i)) at (kind_in nu k)) (λ nu go. ask (Put (nu out) (index_text at) (model.Object (nu i))) (λ _. go (at + 1))) s s
+other_kind out i at k n = by k n
+  where
+    same : (nu : Naming) (go : ℕ → Prog) → ask (Put (nu out) (index_text at) (model.Object (nu i))) (λ _. go (suc at)) ≡ ask (Put (nu out) (index_text at) (model.Object (nu i))) (λ _. go (at + 1))
+    same nu go = let e : suc at ≡ at + 1 = omega arith in ap (λ j. ask (Put (nu out) (index_text at) (model.Object (nu i))) (λ _. go j)) e
+
+    by : {s : Seen} (k : CellKind) → (k ≡ kind.Array → ⊥)
+        → Leads (λ nu. add_piece (nu out) (model.Object (nu i)) at (kind_in nu k)) (λ nu go. ask (Put (nu out) (index_text at) (model.Object (nu i))) (λ _. go (at + 1))) s s
+    by (kind.Frame p) n = leads_same same
+    by (kind.Plain p) n = leads_same same
+    by kind.Array n = absurd (n refl)
+    by (kind.Function m f) n = leads_same same
+    by (kind.BuiltIn w) n = leads_same same
+
+pub other_value : {s : Seen} (out at : ℕ) (v : Value) → ((i : ℕ) → v ≡ code.Object i → ⊥)
+    → Leads (λ nu go. spec.kind_in (val_in nu v) (λ kind. add_piece (nu out) (val_in nu v) at kind go)) (λ nu go. ask (Put (nu out) (index_text at) (val_in nu v)) (λ _. go (at + 1))) s s
+other_value out at v n = by v n
+  where
+    same : (v : Val) (nu : Naming) (go : ℕ → Prog) → ask (Put (nu out) (index_text at) v) (λ _. go (suc at)) ≡ ask (Put (nu out) (index_text at) v) (λ _. go (at + 1))
+    same v nu go = let e : suc at ≡ at + 1 = omega arith in ap (λ j. ask (Put (nu out) (index_text at) v) (λ _. go j)) e
+
+    by : {s : Seen} (v : Value) → ((i : ℕ) → v ≡ code.Object i → ⊥)
+        → Leads (λ nu go. spec.kind_in (val_in nu v) (λ kind. add_piece (nu out) (val_in nu v) at kind go)) (λ nu go. ask (Put (nu out) (index_text at) (val_in nu v)) (λ _. go (at + 1))) s s
+    by code.Undefined n = leads_same (same model.Undefined)
+    by code.Null n = leads_same (same model.Null)
+    by (code.Truth b) n = leads_same (same (model.Truth b))
+    by (code.Number z) n = leads_same (same (model.Number z))
+    by (code.Text t) n = leads_same (same (model.Text t))
+    by (code.Object i) n = absurd (n i refl)
