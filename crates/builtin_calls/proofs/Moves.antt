@@ -1,5 +1,6 @@
 -- How steps of a program follow from what the calls on a heap did.
-use Rattle.std.proofs.Common.{◌≡◌, ◌∙◌, subst, refl, sym, ap, ℕ, zero, suc, ◌+◌, ◌-◌, ◌<◌, ◌≤◌, List, [], ◌∷◌, length, Bool, true, false, nat_lt, cond, Option, Some, None, Result, Ok, Err, arith, IsErrAnd, ℤ, pos, codes}
+use Rattle.std.proofs.Common.{◌≡◌, ◌∙◌, subst, refl, sym, ap, ℕ, zero, suc, ◌+◌, ◌-◌, ◌<◌, ◌≤◌, List, [], ◌∷◌, length, Bool, true, false, nat_lt, cond, Option, Some, None, Result, Ok, Err, arith, IsErrAnd, ℤ, pos, codes, option_map}
+use Rattle.std.specs.Option.{is_some}
 use Rattle.std.proofs.lemmas.Bool.Decides.{nat_tests}
 use Rattle.turk_base.specs.Names.{Name, cell, root, Units}
 use Rattle.turk_base.specs.Values as model
@@ -7,7 +8,7 @@ use Rattle.turk_base.specs.Values.{Val, Kind, Refusal, Outcome, Normal}
 use Rattle.turk_base.specs.Prog.{Prim, Pay, KindOf, Make, Get, Put, Remove, AnswerOf, Prog, Done, Ask, ask, value, refuse, given, made, text_limit}
 use Rattle.turk_base.specs.Conversions.{text_in}
 use Rattle.turk_base.specs.Errors.{text_from, index_text}
-use Rattle.turk_base.specs.BuiltIns.{count_up, set_length, separator_in, item_text, spread, put_found, add_piece}
+use Rattle.turk_base.specs.BuiltIns.{count_up, set_length, separator_in, item_text, spread, put_found, add_piece, swap, move_to}
 use Rattle.turk_base.specs.BuiltIns as spec
 use Rattle.convert_rules.specs.declared.kinds.Prim.{Prim as CodePrim}
 use Rattle.convert_rules.specs.Prims.{val_of}
@@ -253,3 +254,16 @@ other_value out at v n = by v n
     by (code.Number z) n = leads_same (same (model.Number z))
     by (code.Text t) n = leads_same (same (model.Text t))
     by (code.Object i) n = absurd (n i refl)
+
+-- ---- elements that change places: one is there
+
+pub swap_lower : {s : Seen} (at i j : ℕ) (l u : Option Value) → is_some l ≡ true
+    → Leads (λ nu. swap (nu at) i j (option_map (val_in nu) l) (option_map (val_in nu) u)) (λ nu go. move_to (nu at) i (option_map (val_in nu) u) (λ _. move_to (nu at) j (option_map (val_in nu) l) go)) s s
+swap_lower at i j None u e = cc
+swap_lower at i j (Some v) u e = leads_same (λ nu go. refl)
+
+pub swap_upper : {s : Seen} (at i j : ℕ) (l u : Option Value) → is_some u ≡ true
+    → Leads (λ nu. swap (nu at) i j (option_map (val_in nu) l) (option_map (val_in nu) u)) (λ nu go. move_to (nu at) i (option_map (val_in nu) u) (λ _. move_to (nu at) j (option_map (val_in nu) l) go)) s s
+swap_upper at i j l None e = cc
+swap_upper at i j None (Some v) e = leads_same (λ nu go. refl)
+swap_upper at i j (Some w) (Some v) e = leads_same (λ nu go. refl)
