@@ -357,7 +357,8 @@ pub fn slice<H: Heap>(
     let start = position(alloc, begin)?;
     let stop = end_position(alloc, end, length)?;
     let low = from_end(start, length);
-    let number = from_end(stop, length).saturating_sub(low);
+    let high = from_end(stop, length);
+    let number = high.saturating_sub(low);
     copy_items(alloc, heap, this, low, out, 0, number)?;
     set_length(alloc, heap, out, number)?;
     Ok(Value::Object(out))

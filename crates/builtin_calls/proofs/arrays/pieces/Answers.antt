@@ -18,13 +18,15 @@ loop-value-init g c = record {
   }
 
 
+pub add_piece-requires-in-loop-value-clause-value : goal.add_piece-requires-in-loop-value-clause-value
+add_piece-requires-in-loop-value-clause-value g c =
     omega (arith, needs_at c.args.values.now c.loop-value.value-index c.value-item.result c.loop-value-test.true c.value-item.is, c.loop-value.invariant.more, c.requires.values)
 
-pub returns-in_err-add_piece-clause-did : goal.returns-in_err-add_piece-clause-did
-returns-in_err-add_piece-clause-did g c = let i = c.loop-value.value-index in let xs = c.args.values.now in
-    takes_out _ c.from_residual-in_err-add_piece.result c.from_residual-in_err-add_piece.ensures.1
+pub returns-in_err-next-2-clause-did : goal.returns-in_err-next-2-clause-did
+returns-in_err-next-2-clause-did g c = let i = c.loop-value.value-index in let xs = c.args.values.now in
+    takes_out _ c.from_residual-in_err-next-2.result c.from_residual-in_err-next-2.ensures.1
       (leads_out (leads_then c.loop-value.invariant.same (leads_same (λ nu go. ap (λ vs. spec.pieces (nu c.args.out) vs c.loop-value.next go) (map_next (val_in nu) xs i c.value-item.result c.loop-value-test.true c.value-item.is))))
-        (leaves_on c.in_err-add_piece.ensures.did (λ nu next. spec.pieces (nu c.args.out) (map (val_in nu) (drop (i + 1) xs)) next)))
+        (leaves_on c.in_err-next-2.ensures.did (λ nu next. spec.pieces (nu c.args.out) (map (val_in nu) (drop (i + 1) xs)) next)))
 
 pub loop-value-preserved : goal.loop-value-preserved
 loop-value-preserved g c = let i = c.loop-value.value-index in let xs = c.args.values.now in
