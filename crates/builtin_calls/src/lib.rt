@@ -3,3 +3,4 @@
 
 mod arrays;
 mod steps;
+mod texts;
