@@ -7,8 +7,8 @@ use Rattle.turk_base.specs.Values as model
 use Rattle.turk_base.specs.Values.{Val, Kind, Refusal, Outcome, Normal}
 use Rattle.turk_base.specs.Prog.{Prim, Pay, KindOf, Make, Get, Put, Remove, AnswerOf, Prog, Done, Ask, ask, value, refuse, given, made, text_limit}
 use Rattle.turk_base.specs.Conversions.{text_in}
-use Rattle.turk_base.specs.Errors.{text_from, index_text}
-use Rattle.turk_base.specs.BuiltIns.{count_up, set_length, separator_in, item_text, spread, put_found, add_piece, swap, move_to}
+use Rattle.turk_base.specs.Errors.{text_from, index_text, error_cell}
+use Rattle.turk_base.specs.BuiltIns.{count_up, set_length, separator_in, item_text, spread, put_found, add_piece, swap, move_to, pieces_in, split_pieces, error_of}
 use Rattle.turk_base.specs.BuiltIns as spec
 use Rattle.convert_rules.specs.declared.kinds.Prim.{Prim as CodePrim}
 use Rattle.convert_rules.specs.Prims.{val_of}
@@ -267,3 +267,20 @@ pub swap_upper : {s : Seen} (at i j : ℕ) (l u : Option Value) → is_some u �
 swap_upper at i j l None e = cc
 swap_upper at i j None (Some v) e = leads_same (λ nu go. refl)
 swap_upper at i j (Some w) (Some v) e = leads_same (λ nu go. refl)
+
+pub other_pieces : {s : Seen} (v : Value) (t : Units) → (v ≡ code.Undefined → ⊥) → Leads (λ nu. pieces_in (val_in nu v) t) (λ nu go. text_from (val_in nu v) (λ u. go (split_pieces u t))) s s
+other_pieces code.Undefined t n = absurd (n refl)
+other_pieces code.Null t n = leads_same (λ nu go. refl)
+other_pieces (code.Truth b) t n = leads_same (λ nu go. refl)
+other_pieces (code.Number z) t n = leads_same (λ nu go. refl)
+other_pieces (code.Text u) t n = leads_same (λ nu go. refl)
+other_pieces (code.Object c) t n = leads_same (λ nu go. refl)
+
+pub other_error : {s : Seen} (v : Value) (at : ℕ) → (v ≡ code.Undefined → ⊥)
+    → Onward (λ nu. error_of (nu at) (val_in nu v)) (λ nu. text_from (val_in nu v) (λ t. error_cell (nu at) t (λ c. value (model.Object c)))) s s
+other_error code.Undefined at n = absurd (n refl)
+other_error code.Null at n = onward_eq (λ nu. refl)
+other_error (code.Truth b) at n = onward_eq (λ nu. refl)
+other_error (code.Number z) at n = onward_eq (λ nu. refl)
+other_error (code.Text u) at n = onward_eq (λ nu. refl)
+other_error (code.Object c) at n = onward_eq (λ nu. refl)

@@ -2,5 +2,6 @@
 #![tactic(auto)]
 
 mod arrays;
+mod errors;
 mod steps;
 mod texts;

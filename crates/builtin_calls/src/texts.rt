@@ -232,13 +232,13 @@ fn cut(alloc: Global, text: &[u16], part: &[u16]) -> Result<Vec<Units>, NoMemory
 }
 
 /// The pieces of a text at a separator, its units for the empty one.
-fn split_pieces(alloc: Global, text: &[u16], separator: &[u16]) -> Result<Vec<Units>, NoMemory>
+fn split_pieces(alloc: Global, text: &Units, separator: &Units) -> Result<Vec<Units>, NoMemory>
     ensures { IfOk result (λ pieces. pieces.items ≡ spec.split_pieces separator.now text.now) }
 {
-    if separator.is_empty() {
-        units_apart(alloc, text)
+    if separator.len() == 0 {
+        units_apart(alloc, text.as_slice())
     } else {
-        cut(alloc, text, separator)
+        cut(alloc, text.as_slice(), separator.as_slice())
     }
 }
 
@@ -256,7 +256,7 @@ fn pieces_in<H: Heap>(
         return Ok(one_piece(alloc, text)?);
     }
     let part = text_of(alloc, heap, separator)?;
-    Ok(split_pieces(alloc, text.as_slice(), part.as_slice())?)
+    Ok(split_pieces(alloc, text, &part)?)
 }
 
 /// A text as the one piece.
