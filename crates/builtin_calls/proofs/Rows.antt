@@ -1,5 +1,5 @@
 -- The built-in calls by their numbers, and the prototypes by theirs.
-use Rattle.std.proofs.Common.{◌≡◌, ◌∙◌, subst, refl, sym, ap, ℕ, zero, suc, ◌+◌, ◌-◌, ◌<◌, ◌≤◌, List, [], ◌∷◌, length, Some, None, slice_get, Result, Ok, Err, arith, IsErrAnd}
+use Rattle.std.proofs.Common.{◌≡◌, ◌∙◌, subst, refl, sym, ap, ℕ, zero, suc, ◌+◌, ◌-◌, ◌<◌, ◌≤◌, List, [], ◌∷◌, length, Some, None, slice_get, Result, Ok, Err, arith, IsErrAnd, codes}
 use Rattle.std.proofs.lemmas.Option.{slice_get-map, slice_get_within}
 use Rattle.turk_base.specs.Names.{Name, root, cell, Units}
 use Rattle.turk_base.specs.Values as model
@@ -14,7 +14,9 @@ use Rattle.value_cells.specs.declared.OpStop.{OpStop}
 use Rattle.value_cells.specs.declared.OpStop.TheVariants as heap
 use Rattle.value_cells.specs.Seen.{Naming, Seen, Fits, val_in, count}
 use Rattle.value_cells.specs.Does.{Told, Did, Runs, ends_from, told_stop}
-use Rattle.value_cells.proofs.Turns.{fits_before}
+use Rattle.value_cells.proofs.Turns.{fits_before, failed}
+use Rattle.builtin_calls.proofs.Moves.{onward_eq}
+use Rattle.builtin_calls.specs.declared.CallStop.TheVariants.{Throw, Memory}
 use Rattle.builtin_calls.specs.declared.CallStop.{CallStop}
 use Rattle.builtin_calls.specs.Called.{Called, call_stop, HasBuiltIns}
 
@@ -161,3 +163,11 @@ called_out {f} {s} {t} heap.NoPrimitive (Err y) m x = subst (λ y. Called f (Err
 called_out {f} {s} {t} heap.TooLong (Err y) m x = subst (λ y. Called f (Err y) s t) (sym m) x
 called_out {f} {s} {t} heap.Spent (Err y) m x = subst (λ y. Called f (Err y) s t) (sym m) x
 called_out {f} {s} {t} heap.Memory (Err y) m x = subst (λ y. Called f (Err y) s t) (sym m) x
+
+-- ---- an error is thrown
+
+pub thrown : {f : Naming → Prog} (s : Seen) (stop : CallStop) → stop ≡ Throw 0 (codes "not a function") → ((nu : Naming) → f nu ≡ not_a_function) → Called f (Err stop) s s
+thrown {f} s stop e same = subst (λ x. Called f (Err x) s s) (sym e) (onward_eq same)
+
+pub lost : (f : Naming → Prog) (s : Seen) (r : Result Value CallStop) → IsErrAnd r (λ x. x ≡ Memory) → Called f r s s
+lost f s r m = called_out heap.Memory r m failed

@@ -8,6 +8,8 @@ mod arrays;
 mod calls;
 mod errors;
 mod steps;
+#[cfg(test)]
+mod tests;
 mod texts;
 
 pub use calls::call;
