@@ -1,4 +1,4 @@
--- A heap for tests: the built-in cells, all said to be plain, and fuel.
+-- What the calls of a purse come to.
 use Rattle.std.proofs.Common.{◌≡◌, ◌∙◌, refl, sym, ap, ℕ, zero, suc, ◌-◌, ◌<◌, ◌≤◌, Bool, true, false, nat_lt, List, [], ◌∷◌, Some, None, slice_get, arith}
 use Rattle.std.proofs.lemmas.Bool.Decides.{nat_tests}
 use Rattle.turk_base.specs.Names.{root, cell, Name}
@@ -12,15 +12,7 @@ use Rattle.value_cells.specs.Comes.{Comes, goes, spends, charged, then_goes, act
 use Rattle.value_cells.specs.Does.{Does, Says, Spends, comes_from}
 use Rattle.value_cells.proofs.Turns.{stays_same}
 use Rattle.builtin_calls.specs.Called.{HasBuiltIns}
-
-abbrev pub purse : ℕ → Seen
-purse left = record {
-  names = cell root 0 ∷ cell root 1 ∷ cell root 2 ∷ cell root 3 ∷ cell root 4 ∷ cell root 5 ∷ cell root 6 ∷ [];
-  first = λ nu. record start { known = λ n. Some (record { kind = Plain None; chain = [] }) };
-  scope = record { path = root; branch = root; body = false; back = λ nu. start };
-  outer = [];
-  left = left;
-}
+use Rattle.builtin_calls.specs.Purse.{purse}
 
 pub built_ins : (left : ℕ) → HasBuiltIns (purse left)
 built_ins left = record { named = by }

@@ -1,7 +1,8 @@
 //! The calls that make no cell, over a heap that has the built-in cells and fuel alone.
 ghost use Rattle.std.specs.Prelude.{◌≡◌, ◌≤◌, None};
+ghost use Rattle.value_cells.specs.declared.CellKind.TheVariants.{Plain};
 ghost use Rattle.value_cells.specs.Needs.{needs, all_needs};
-ghost use Rattle.builtin_calls.proofs.Purse.{purse};
+ghost use Rattle.builtin_calls.specs.Purse.{purse};
 
 use crate::{CallStop, call};
 use std::alloc::Global;
@@ -14,7 +15,7 @@ use value_cells::{CellKind, Heap, OpStop, Value};
 struct Purse {
     kind: CellKind,
     left: u64,
-    ghost plain: { kind ≡ CellKind.Plain None },
+    ghost plain: { kind ≡ Plain None },
 }
 
 impl Heap for Purse {
