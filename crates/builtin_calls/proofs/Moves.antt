@@ -1,11 +1,11 @@
 -- How steps of a program follow from what the calls on a heap did.
-use Rattle.std.proofs.Common.{◌≡◌, ◌∙◌, subst, refl, sym, ap, ℕ, zero, suc, ◌+◌, ◌-◌, ◌<◌, ◌≤◌, List, [], ◌∷◌, length, Bool, true, false, nat_lt, cond, Option, Some, None, Result, Ok, Err, arith, IsErrAnd, ℤ, pos, codes, option_map}
+use Rattle.std.proofs.Common.{◌≡◌, ◌∙◌, subst, refl, sym, ap, ℕ, suc, ◌+◌, ◌-◌, ◌<◌, ◌≤◌, length, Bool, true, false, nat_lt, cond, Option, Some, None, Result, Ok, Err, arith, IsErrAnd, ℤ, pos, codes, option_map}
 use Rattle.std.specs.Option.{is_some}
 use Rattle.std.proofs.lemmas.Bool.Decides.{nat_tests}
 use Rattle.turk_base.specs.Names.{Name, cell, root, Units}
 use Rattle.turk_base.specs.Values as model
 use Rattle.turk_base.specs.Values.{Val, Kind, Refusal, Outcome, Normal}
-use Rattle.turk_base.specs.Prog.{Prim, Pay, KindOf, Make, Get, Put, Remove, AnswerOf, Prog, Done, Ask, ask, value, refuse, given, made, text_limit}
+use Rattle.turk_base.specs.Prog.{Prim, Pay, KindOf, Make, Get, Put, Remove, Prog, Ask, ask, value, refuse, given, made, text_limit}
 use Rattle.turk_base.specs.Conversions.{text_in}
 use Rattle.turk_base.specs.Errors.{text_from, index_text, error_cell}
 use Rattle.turk_base.specs.BuiltIns.{count_up, set_length, separator_in, item_text, spread, put_found, add_piece, swap, move_to, pieces_in, split_pieces, error_of}
@@ -19,7 +19,7 @@ use Rattle.value_cells.specs.declared.OpStop.TheVariants.{NotWhole, NoPrimitive,
 use Rattle.value_cells.specs.Seen.{Naming, Seen, val_in, kind_in}
 use Rattle.value_cells.specs.declared.CellKind.{CellKind}
 use Rattle.value_cells.specs.declared.CellKind.TheVariants as kind
-use Rattle.value_cells.specs.Does.{Told, Says, Does, Onward, Runs, told, told_stop}
+use Rattle.value_cells.specs.Does.{Says, Does, Onward, Runs, told, told_stop}
 use Rattle.value_cells.proofs.Turns.{asks, asks_out, onward_then, onward_same, ended, refused, failed}
 use Rattle.builtin_calls.specs.Gives.{Step, Leads, Leaves, Gives, Takes, Answers, IsPrimitive}
 

@@ -1,5 +1,5 @@
 -- Texts that are looked through unit by unit.
-use Rattle.std.proofs.Common.{◌≡◌, ◌∙◌, refl, sym, ap, ℕ, suc, nat_eq, Bool, ◌&&◌, List, [], ◌∷◌, length, take, true, cond, Option, Some, None}
+use Rattle.std.proofs.Common.{◌≡◌, refl, ap, ℕ, suc, nat_eq, ◌&&◌, [], ◌∷◌, length, take, true, cond, Some, None}
 use Rattle.std.specs.Cmp.Lexicographic.{pointwise}
 use Rattle.turk_base.specs.Names.{Units}
 use Rattle.turk_base.specs.BuiltIns as spec

@@ -1,15 +1,13 @@
 -- What the calls of a purse come to.
-use Rattle.std.proofs.Common.{◌≡◌, ◌∙◌, refl, sym, ap, ℕ, zero, suc, ◌-◌, ◌<◌, ◌≤◌, Bool, true, false, nat_lt, List, [], ◌∷◌, Some, None, slice_get, arith}
+use Rattle.std.proofs.Common.{◌≡◌, ◌∙◌, refl, ap, ℕ, zero, suc, ◌-◌, ◌<◌, ◌≤◌, true, false, nat_lt, Some, None, slice_get, arith}
 use Rattle.std.proofs.lemmas.Bool.Decides.{nat_tests}
-use Rattle.turk_base.specs.Names.{root, cell, Name}
-use Rattle.turk_base.specs.Values.{Plain, Kind}
-use Rattle.turk_base.specs.State.{St, act, op_cost}
-use Rattle.turk_base.specs.Start.{start}
+use Rattle.turk_base.specs.Names.{root, cell}
+use Rattle.turk_base.specs.Values.{Plain}
+use Rattle.turk_base.specs.State.{act}
 use Rattle.turk_base.specs.Steps.{steps_of}
-use Rattle.turk_base.specs.Prog.{Prim, AnswerOf, Pay, KindOf}
-use Rattle.value_cells.specs.Seen.{Naming, Seen}
-use Rattle.value_cells.specs.Comes.{Comes, goes, spends, charged, then_goes, acted, comes}
-use Rattle.value_cells.specs.Does.{Does, Says, Spends, comes_from}
+use Rattle.turk_base.specs.Prog.{Prim, Pay, KindOf}
+use Rattle.value_cells.specs.Comes.{goes, charged, comes}
+use Rattle.value_cells.specs.Does.{Does, Says, Spends}
 use Rattle.value_cells.proofs.Turns.{stays_same}
 use Rattle.builtin_calls.specs.Called.{HasBuiltIns}
 use Rattle.builtin_calls.specs.Purse.{purse}
@@ -32,16 +30,19 @@ unfolding comes steps_of act
 pays left units h = record {
   stays = record { scope = refl; outer = refl; grows = λ i n e. e; below = (stays_same (purse left)).below };
   did = λ nu fits. let no : nat_lt left units ≡ false = grind (arith, nat_tests) in
-    ap (λ b. charged b units ((purse left).first nu) left (goes tt ((purse left).first nu) (left - units))) no;
+      ap (λ b. charged b units ((purse left).first nu) left (goes tt ((purse left).first nu) (left - units))) no;
 }
 
 pub spent : (left units : ℕ) → left < units → Does (λ nu. Pay units) (λ nu. Spends) (purse left) (purse left)
 unfolding comes steps_of act
 spent left units h = record {
   stays = stays_same (purse left);
-  did = λ nu fits. let yes : nat_lt left units ≡ true = grind (arith, nat_tests) in
-    ((purse left).first nu, left, ap (λ b. charged b units ((purse left).first nu) left (goes tt ((purse left).first nu) (left - units))) yes,
-      record { text = refl; opened = refl; verdict = refl });
+  did = λ nu fits. let yes : nat_lt left units ≡ true = grind (arith, nat_tests) in (
+    (purse left).first nu,
+    left,
+    ap (λ b. charged b units ((purse left).first nu) left (goes tt ((purse left).first nu) (left - units))) yes,
+    record { text = refl; opened = refl; verdict = refl },
+  );
 }
 
 pub kind_told : (left c : ℕ) → Does (λ nu. KindOf (nu c)) (λ nu. Says (Plain None)) (purse left) (purse left)
@@ -49,5 +50,5 @@ unfolding comes steps_of act
 kind_told left c = record {
   stays = stays_same (purse left);
   did = λ nu fits. let no : nat_lt left 0 ≡ false = grind (arith, nat_tests) in let e : left - 0 ≡ left = omega arith in
-    ap (λ b. charged b 0 ((purse left).first nu) left (goes (Plain None) ((purse left).first nu) (left - 0))) no ∙ ap (λ n. goes (Plain None) ((purse left).first nu) n) e;
+      ap (λ b. charged b 0 ((purse left).first nu) left (goes (Plain None) ((purse left).first nu) (left - 0))) no ∙ ap (λ n. goes (Plain None) ((purse left).first nu) n) e;
 }

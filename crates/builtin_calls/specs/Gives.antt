@@ -1,5 +1,5 @@
 -- What a function over a heap did of a program: one step of it, whatever comes after the step.
-use Rattle.std.specs.Prelude.{◌≡◌, ℕ, suc, ◌<◌, Option, Some, None, Result, Ok, Err}
+use Rattle.std.specs.Prelude.{◌≡◌, Option, Some, None, Result, Ok, Err}
 use Rattle.turk_base.specs.Values as model
 use Rattle.turk_base.specs.Values.{Val, Refusal}
 use Rattle.turk_base.specs.Names.{Name}

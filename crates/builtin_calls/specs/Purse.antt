@@ -1,5 +1,5 @@
 -- A heap for tests: the built-in cells, all said to be plain, and fuel.
-use Rattle.std.specs.Prelude.{ℕ, List, [], ◌∷◌, Some, None, false}
+use Rattle.std.specs.Prelude.{ℕ, [], ◌∷◌, Some, None, false}
 use Rattle.turk_base.specs.Names.{root, cell}
 use Rattle.turk_base.specs.Values.{Plain}
 use Rattle.turk_base.specs.Start.{start}

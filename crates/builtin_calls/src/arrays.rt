@@ -10,7 +10,9 @@ ghost use Rattle.value_cells.specs.Seen.{Naming, count, val_in};
 ghost use Rattle.value_cells.specs.Does.{Runs, told};
 ghost use Rattle.builtin_calls.specs.Gives.{Takes, Answers};
 
-use crate::steps::{end_position, get_at, length, paid, position, put_at, remove_at, set_length, text_of, whole};
+use crate::steps::{
+    end_position, get_at, length, paid, position, put_at, remove_at, set_length, text_of, whole,
+};
 use std::alloc::Global;
 use turk_base::{NoMemory, Units, Whole};
 use value_cells::{CellKind, Heap, OpStop, Value};
@@ -223,13 +225,7 @@ fn sayable(length: u64) -> Result<u64, NoMemory>
 }
 
 /// Copies all elements of an array to another from an index on, and answers the index after them.
-fn spread<H: Heap>(
-    alloc: Global,
-    heap: &mut H,
-    out: u32,
-    from: u32,
-    at: u64,
-) -> Result<u64, OpStop>
+fn spread<H: Heap>(alloc: Global, heap: &mut H, out: u32, from: u32, at: u64) -> Result<u64, OpStop>
     requires out { out < count (H.seen heap.old) }
     requires from { from < count (H.seen heap.old) }
     requires small { at ≤ 2 ^ 53 }

@@ -1,4 +1,4 @@
-use Rattle.std.proofs.Common.{ap, Some, None}
+use Rattle.std.proofs.Common.{ap}
 use Rattle.std.specs.Option.{option_map}
 use Rattle.turk_base.specs.BuiltIns as spec
 use Rattle.value_cells.specs.Seen.{val_in}
@@ -11,9 +11,9 @@ returns-in_err-value-clause-did g c = takes_out _ c.from_residual.result c.from_
 pub returns-in-Some-clause-did : goal.returns-in-Some-clause-did
 returns-in-Some-clause-did g c = takes_as _ (λ nu u. u) c.put_at.result
     (leads_then (gives_on c.in_ok-value.ensures.did (λ nu v. spec.put_found (nu c.args.to) c.args.j v))
-      (leads_same (λ nu go. ap (λ v. spec.put_found (nu c.args.to) c.args.j (option_map (val_in nu) v) go) c.in-Some.is))) c.put_at.ensures.did
+    (leads_same (λ nu go. ap (λ v. spec.put_found (nu c.args.to) c.args.j (option_map (val_in nu) v) go) c.in-Some.is))) c.put_at.ensures.did
 
 pub returns-in-None-clause-did : goal.returns-in-None-clause-did
 returns-in-None-clause-did g c =
     leads_then (gives_on c.in_ok-value.ensures.did (λ nu v. spec.put_found (nu c.args.to) c.args.j v))
-      (leads_same (λ nu go. ap (λ v. spec.put_found (nu c.args.to) c.args.j (option_map (val_in nu) v) go) c.in-None.is))
+    (leads_same (λ nu go. ap (λ v. spec.put_found (nu c.args.to) c.args.j (option_map (val_in nu) v) go) c.in-None.is))

@@ -17,14 +17,14 @@ copy_item-requires-clause-to g c = omega (arith, c.loop-i.invariant.more, c.requ
 pub returns-in_err-copy_item-clause-did : goal.returns-in_err-copy_item-clause-did
 returns-in_err-copy_item-clause-did g c = takes_out _ c.from_residual.result c.from_residual.ensures.1
     (turn_out (λ nu i go. ask (Get (nu c.args.from) (index_text (c.args.low + i))) (λ v. spec.put_found (nu c.args.to) (c.args.at + i) v go)) c.args.number c.loop-i.i
-      c.loop-i.invariant.same c.loop-i-test.true c.in_err-copy_item.ensures.did)
+    c.loop-i.invariant.same c.loop-i-test.true c.in_err-copy_item.ensures.did)
 
 pub loop-i-preserved : goal.loop-i-preserved
 loop-i-preserved g c = record {
-    same = turn_goes (λ nu i go. ask (Get (nu c.args.from) (index_text (c.args.low + i))) (λ v. spec.put_found (nu c.args.to) (c.args.at + i) v go)) c.args.number c.loop-i.i
+  same = turn_goes (λ nu i go. ask (Get (nu c.args.from) (index_text (c.args.low + i))) (λ v. spec.put_found (nu c.args.to) (c.args.at + i) v go)) c.args.number c.loop-i.i
       c.loop-i.invariant.same c.loop-i-test.true c.in_ok-copy_item.ensures.did;
-    more = omega (arith, c.loop-i.invariant.more, c.in_ok-copy_item.ensures.more);
-  }
+  more = omega (arith, c.loop-i.invariant.more, c.in_ok-copy_item.ensures.more);
+}
 
 pub returns-clause-did : goal.returns-clause-did
 returns-clause-did g c = turns_end (λ nu i go. ask (Get (nu c.args.from) (index_text (c.args.low + i))) (λ v. spec.put_found (nu c.args.to) (c.args.at + i) v go)) c.args.number c.loop-i.i

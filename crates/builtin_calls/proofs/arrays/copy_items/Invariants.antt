@@ -12,6 +12,6 @@ invariant-loop-i g l =
     let t = g.H.Heap.seen l.heap in
     record {
       same : Leads (λ nu. spec.count_up l.number 0 (λ i go. ask (Get (nu l.from) (index_text (l.low + i))) (λ v. spec.put_found (nu l.to) (l.at + i) v go)))
-        (λ nu. spec.count_up (l.number - l.i) l.i (λ i go. ask (Get (nu l.from) (index_text (l.low + i))) (λ v. spec.put_found (nu l.to) (l.at + i) v go))) s t;
+          (λ nu. spec.count_up (l.number - l.i) l.i (λ i go. ask (Get (nu l.from) (index_text (l.low + i))) (λ v. spec.put_found (nu l.to) (l.at + i) v go))) s t;
       more : count s ≤ count t;
     }

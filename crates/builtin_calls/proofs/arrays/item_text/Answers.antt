@@ -1,4 +1,4 @@
-use Rattle.std.proofs.Common.{ap, Some}
+use Rattle.std.proofs.Common.{ap}
 use Rattle.std.specs.Option.{option_map}
 use Rattle.turk_base.specs.BuiltIns as spec
 use Rattle.value_cells.specs.Seen.{val_in}

@@ -1,4 +1,4 @@
-use Rattle.std.proofs.Common.{◌≡◌, ◌∙◌, refl, sym, ap, ℕ, suc, ◌+◌, ◌-◌, ◌<◌, ◌++◌, [], arith}
+use Rattle.std.proofs.Common.{◌≡◌, ◌∙◌, sym, ap, ℕ, suc, ◌+◌, ◌-◌, ◌<◌, ◌++◌, [], arith}
 use Rattle.std.specs.Prelude.{if◌then◌else◌, ◌==◌}
 use Rattle.turk_base.specs.Names.{Name, Units}
 use Rattle.turk_base.specs.Prog.{Prog, Get, ask}
@@ -23,21 +23,21 @@ text_at-requires g c = omega (arith, c.loop-i.invariant.more, c.requires)
 pub returns-in_err-piece-clause-did : goal.returns-in_err-piece-clause-did
 returns-in_err-piece-clause-did g c = let i = c.loop-i.i in let n = c.args.length in let sep = c.args.separator.now in
     takes_out _ c.from_residual.result c.from_residual.ensures.1
-      (leads_out (leads_then c.loop-i.invariant.same (leads_same (λ nu go. next (nu c.args.this) sep c.loop-i.text i n go c.loop-i-test.true)))
-        (leaves_on c.in_err-piece.ensures.did (λ nu t. spec.joined (nu c.args.this) sep (n - (i + 1)) (i + 1) (c.loop-i.text ++ (if i == 0 then t else sep ++ t)))))
+    (leads_out (leads_then c.loop-i.invariant.same (leads_same (λ nu go. next (nu c.args.this) sep c.loop-i.text i n go c.loop-i-test.true)))
+    (leaves_on c.in_err-piece.ensures.did (λ nu t. spec.joined (nu c.args.this) sep (n - (i + 1)) (i + 1) (c.loop-i.text ++ (if i == 0 then t else sep ++ t)))))
 
 pub returns-in_err-add_text-clause-did : goal.returns-in_err-add_text-clause-did
 returns-in_err-add_text-clause-did g c = let i = c.loop-i.i in let n = c.args.length in let sep = c.args.separator.now in
     takes_out _ c.from_residual-in_err-add_text.result c.from_residual-in_err-add_text.ensures.1
-      (out_lost (leads_then (leads_then c.loop-i.invariant.same (leads_same (λ nu go. next (nu c.args.this) sep c.loop-i.text i n go c.loop-i-test.true)))
-        (gives_on c.in_ok-piece.ensures.did (λ nu t. spec.joined (nu c.args.this) sep (n - (i + 1)) (i + 1) (c.loop-i.text ++ (if i == 0 then t else sep ++ t))))))
+    (out_lost (leads_then (leads_then c.loop-i.invariant.same (leads_same (λ nu go. next (nu c.args.this) sep c.loop-i.text i n go c.loop-i-test.true)))
+    (gives_on c.in_ok-piece.ensures.did (λ nu t. spec.joined (nu c.args.this) sep (n - (i + 1)) (i + 1) (c.loop-i.text ++ (if i == 0 then t else sep ++ t))))))
 
 pub loop-i-preserved : goal.loop-i-preserved
 loop-i-preserved g c = let i = c.loop-i.i in let n = c.args.length in let sep = c.args.separator.now in
     record {
       same = leads_then (leads_then (leads_then c.loop-i.invariant.same (leads_same (λ nu go. next (nu c.args.this) sep c.loop-i.text i n go c.loop-i-test.true)))
-        (gives_on c.in_ok-piece.ensures.did (λ nu t. spec.joined (nu c.args.this) sep (n - (i + 1)) (i + 1) (c.loop-i.text ++ (if i == 0 then t else sep ++ t)))))
-        (leads_same (λ nu go. ap (λ t. spec.joined (nu c.args.this) sep (n - (i + 1)) (i + 1) t go) (sym c.in_ok-add_text.ensures)));
+          (gives_on c.in_ok-piece.ensures.did (λ nu t. spec.joined (nu c.args.this) sep (n - (i + 1)) (i + 1) (c.loop-i.text ++ (if i == 0 then t else sep ++ t)))))
+          (leads_same (λ nu go. ap (λ t. spec.joined (nu c.args.this) sep (n - (i + 1)) (i + 1) t go) (sym c.in_ok-add_text.ensures)));
       more = omega (arith, c.loop-i.invariant.more, c.in_ok-piece.ensures.more);
     }
 

@@ -16,4 +16,4 @@ returns-in_err-copy-clause-did g c = takes_out _ c.from_residual-in_err-copy.res
 pub returns-clause-did : goal.returns-clause-did
 returns-clause-did g c = takes_as _ (λ nu u. u) c.put_at.result
     (leads_then (gives_on c.in_ok-length.ensures.did (λ nu n. ask (Put (nu c.args.this) (index_text n) (val_in nu c.args.value.now))))
-      (leads_same (λ nu go. ap (λ v. ask (Put (nu c.args.this) (index_text c.in_ok-length.length) (val_in nu v)) go) (sym c.in_ok-copy.ensures)))) c.put_at.ensures.did
+    (leads_same (λ nu go. ap (λ v. ask (Put (nu c.args.this) (index_text c.in_ok-length.length) (val_in nu v)) go) (sym c.in_ok-copy.ensures)))) c.put_at.ensures.did

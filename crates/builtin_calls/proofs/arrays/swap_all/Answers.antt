@@ -22,9 +22,9 @@ returns-in_err-swap-clause-did g c = takes_out _ c.from_residual.result c.from_r
 
 pub loop-i-preserved : goal.loop-i-preserved
 loop-i-preserved g c = record {
-    same = turn_goes (turn c.args.cell c.args.length) (c.args.length / 2) c.loop-i.i c.loop-i.invariant.same c.loop-i-test.true c.in_ok-swap.ensures.did;
-    more = omega (arith, c.loop-i.invariant.more, c.in_ok-swap.ensures.more);
-  }
+  same = turn_goes (turn c.args.cell c.args.length) (c.args.length / 2) c.loop-i.i c.loop-i.invariant.same c.loop-i-test.true c.in_ok-swap.ensures.did;
+  more = omega (arith, c.loop-i.invariant.more, c.in_ok-swap.ensures.more);
+}
 
 pub returns-clause-did : goal.returns-clause-did
 returns-clause-did g c = turns_end (turn c.args.cell c.args.length) (c.args.length / 2) c.loop-i.i c.loop-i.invariant.same c.loop-i-test.false

@@ -1,4 +1,4 @@
-use Rattle.std.proofs.Common.{map, arith}
+use Rattle.std.proofs.Common.{map}
 use Rattle.value_cells.specs.Seen.{val_in}
 use Rattle.builtin_calls.proofs.Rows.{no_array, no_text, no_row, thrown, lost}
 use Rattle.builtin_calls.proofs.calls.call.Goals as goal

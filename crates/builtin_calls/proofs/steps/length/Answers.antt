@@ -12,4 +12,4 @@ returns-in_err-found-clause-did g c = takes_out _ c.from_residual-in_err-found.r
 pub returns-clause-did : goal.returns-clause-did
 returns-clause-did g c =
     leads_then (gives_on (get_takes (λ nu. option_map (val_in nu)) (codes "length") (Ok c.in_ok-found.found) c.in_ok-key.ensures c.in_ok-found.ensures.did) (λ nu v go. go (natural_in v)))
-      (leads_same (λ nu go. ap go (c.natural.ensures.value nu)))
+    (leads_same (λ nu go. ap go (c.natural.ensures.value nu)))

@@ -1,4 +1,4 @@
-use Rattle.std.proofs.Common.{ap, sym, Ok, Err}
+use Rattle.std.proofs.Common.{ap, sym}
 use Rattle.turk_base.specs.BuiltIns as spec
 use Rattle.builtin_calls.proofs.Moves.{takes_out, leads_then, leads_out, leads_same, gives_on, leaves_on, out_lost, other_pieces}
 use Rattle.builtin_calls.proofs.texts.pieces_in.Goals as goal
@@ -14,4 +14,4 @@ returns-in_err-split_pieces-clause-did g c = takes_out _ c.from_residual-in_err-
 pub returns-clause-did : goal.returns-clause-did
 returns-clause-did g c =
     leads_then (leads_then (other_pieces c.args.separator.now c.args.text.now c.in_default.not-Undefined) (gives_on c.in_ok-part.ensures.did (λ nu u go. go (spec.split_pieces u c.args.text.now))))
-      (leads_same (λ nu go. ap go (sym c.in_ok-split_pieces.ensures)))
+    (leads_same (λ nu go. ap go (sym c.in_ok-split_pieces.ensures)))

@@ -1,4 +1,4 @@
-use Rattle.std.proofs.Common.{◌≡◌, ◌∙◌, refl, sym, ap, ℕ, suc, ◌+◌, ◌<◌, ◌≤◌, List, [], ◌∷◌, length, get_or, drop, drop-cons, add-one, arith}
+use Rattle.std.proofs.Common.{◌≡◌, ◌∙◌, refl, sym, ap, ℕ, ◌+◌, ◌<◌, List, length, get_or, drop, drop-cons, add-one, arith}
 use Rattle.std.proofs.Math.ListN.{drop_of_length-le}
 use Rattle.turk_base.specs.Names.{Name, Units}
 use Rattle.turk_base.specs.Values as model
@@ -22,19 +22,19 @@ put_piece-requires g c = omega (arith, c.loop-i.invariant.more, c.requires)
 pub returns-in_err-put_piece-clause-did : goal.returns-in_err-put_piece-clause-did
 returns-in_err-put_piece-clause-did g c = let i = c.loop-i.i in let ts = c.args.pieces.now in
     runs_out _ c.in_err-put_piece.field-0.0 c.from_residual.result c.from_residual.ensures.1 (onward_out c.in_err-put_piece.field-0.0
-      (onward_then c.loop-i.invariant.same (onward_eq (λ nu. next (nu c.args.cell) ts i c.index-pieces-i.result (omega (arith, c.loop-i-test.true)) c.index-pieces-i.is)))
-      (c.in_err-put_piece.ensures.did.ends (λ nu _. spec.put_pieces (nu c.args.cell) (i + 1) (drop (i + 1) ts))))
+    (onward_then c.loop-i.invariant.same (onward_eq (λ nu. next (nu c.args.cell) ts i c.index-pieces-i.result (omega (arith, c.loop-i-test.true)) c.index-pieces-i.is)))
+    (c.in_err-put_piece.ensures.did.ends (λ nu _. spec.put_pieces (nu c.args.cell) (i + 1) (drop (i + 1) ts))))
 
 pub loop-i-preserved : goal.loop-i-preserved
 loop-i-preserved g c = let i = c.loop-i.i in let ts = c.args.pieces.now in
     record {
       same = onward_then (onward_then c.loop-i.invariant.same (onward_eq (λ nu. next (nu c.args.cell) ts i c.index-pieces-i.result (omega (arith, c.loop-i-test.true)) c.index-pieces-i.is)))
-        (c.in_ok-put_piece.ensures.did.goes (λ nu _. spec.put_pieces (nu c.args.cell) (i + 1) (drop (i + 1) ts)));
+          (c.in_ok-put_piece.ensures.did.goes (λ nu _. spec.put_pieces (nu c.args.cell) (i + 1) (drop (i + 1) ts)));
       more = omega (arith, c.loop-i.invariant.more, c.in_ok-put_piece.ensures.more);
     }
 
 pub returns-clause-did : goal.returns-clause-did
 returns-clause-did g c = let i = c.loop-i.i in let ts = c.args.pieces.now in
     runs_value (λ nu. model.Object (nu c.args.cell)) (λ nu. model.Object (nu c.args.cell))
-      (onward_then c.loop-i.invariant.same (onward_eq (λ nu. ap (spec.put_pieces (nu c.args.cell) i) (drop_of_length-le ts (omega (arith, c.loop-i-test.false))))))
-      (λ nu. refl)
+    (onward_then c.loop-i.invariant.same (onward_eq (λ nu. ap (spec.put_pieces (nu c.args.cell) i) (drop_of_length-le ts (omega (arith, c.loop-i-test.false))))))
+    (λ nu. refl)

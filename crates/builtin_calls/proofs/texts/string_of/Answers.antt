@@ -1,4 +1,4 @@
-use Rattle.std.proofs.Common.{refl, sym, ap, map, drop, [], ◌∷◌, arith}
+use Rattle.std.proofs.Common.{refl, sym, ap, [], arith}
 use Rattle.turk_base.specs.Values as model
 use Rattle.turk_base.specs.Prog.{value}
 use Rattle.turk_base.specs.BuiltIns as spec
@@ -20,4 +20,4 @@ returns-in-empty-clause-did g c = runs_value (λ nu. model.Text []) (λ nu. mode
 pub returns-in_ok-text_of-in-len1-up-clause-did : goal.returns-in_ok-text_of-in-len1-up-clause-did
 returns-in_ok-text_of-in-len1-up-clause-did g c = runs_value (λ nu. model.Text c.in_ok-text_of-in-len1-up.field-0) (λ nu. model.Text c.in_ok-text_of-in-len1-up.field-0)
     (onward_then (onward_eq (λ nu. ap spec.string_of (map_next (val_in nu) c.args.values.now 0 c.value-item.result (omega (arith, c.in-len1-up.len_at_least)) c.value-item.is)))
-      (c.in_ok-text_of-in-len1-up.ensures.did.goes (λ nu t. value (model.Text t)))) (λ nu. refl)
+    (c.in_ok-text_of-in-len1-up.ensures.did.goes (λ nu t. value (model.Text t)))) (λ nu. refl)
