@@ -1,0 +1,17 @@
+use Rattle.std.proofs.Common.{◌-◌, ◌/◌, ◌≤◌}
+use Rattle.turk_base.specs.Prog.{Get, ask}
+use Rattle.turk_base.specs.Errors.{index_text}
+use Rattle.turk_base.specs.BuiltIns as spec
+use Rattle.value_cells.specs.Seen.{count}
+use Rattle.builtin_calls.specs.Gives.{Leads}
+use Rattle.builtin_calls.proofs.arrays.swap_all.Given as goal
+
+abbrev pub invariant-loop-i : goal.invariant-loop-i
+invariant-loop-i g l =
+    let s = g.H.Heap.seen l.fn.heap in
+    let t = g.H.Heap.seen l.heap in
+    record {
+      same : Leads (λ nu. spec.count_up (l.length / 2) 0 (λ i go. ask (Get (nu l.cell) (index_text i)) (λ lower. ask (Get (nu l.cell) (index_text (l.length - 1 - i))) (λ upper. spec.swap (nu l.cell) i (l.length - 1 - i) lower upper go))))
+          (λ nu. spec.count_up (l.length / 2 - l.i) l.i (λ i go. ask (Get (nu l.cell) (index_text i)) (λ lower. ask (Get (nu l.cell) (index_text (l.length - 1 - i))) (λ upper. spec.swap (nu l.cell) i (l.length - 1 - i) lower upper go)))) s t;
+      more : count s ≤ count t;
+    }
