@@ -1,10 +1,9 @@
 -- Looking in one list of entries and then in another.
-use Rattle.std.proofs.Common.{◌≡◌, Bool, true, false, cond, ◌||◌, List, [], ◌∷◌, ◌++◌, ℕ, Option, Some, None, refl, sym, ap, ◌∙◌}
+use Rattle.std.proofs.Common.{◌≡◌, Bool, true, false, cond, ◌||◌, List, [], ◌∷◌, ◌++◌, ℕ, Option, Some, None, refl, ap, ◌∙◌}
 use Rattle.turk_base.specs.declared.Entry.{Entry}
 use Rattle.turk_base.specs.declared.Record.{Record}
 use Rattle.turk_base.specs.Trace.{at, below, same_list, begins}
 use Rattle.std.specs.Prelude.{◌&&◌, not}
-use Rattle.ask_model.specs.declared.Known.{Known}
 use Rattle.ask_model.specs.declared.Known.TheVariants.{Nothing, Below, Here}
 use Rattle.ask_model.specs.Asker.{known_by, known_at}
 

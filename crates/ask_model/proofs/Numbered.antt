@@ -1,5 +1,5 @@
 -- Entries at the paths 0, 1, 2 and so on.
-use Rattle.std.proofs.Common.{◌≡◌, ℕ, ◌+◌, ◌<◌, ◌≤◌, List, [], ◌∷◌, ◌++◌, length, None, refl, ap, arith, length-append}
+use Rattle.std.proofs.Common.{◌≡◌, ℕ, ◌+◌, ◌<◌, ◌≤◌, List, [], ◌∷◌, ◌++◌, length, None, arith, length-append}
 use Rattle.turk_base.specs.declared.Entry.{Entry}
 use Rattle.turk_base.specs.Trace.{at}
 use Rattle.record_bytes.specs.Limits.{IsWithin}

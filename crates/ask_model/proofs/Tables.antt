@@ -1,13 +1,12 @@
 -- One entry more at the end of a table.
-use Rattle.std.proofs.Common.{◌≡◌, ◌≢◌, ℕ, ℤ, pos, negsuc, ◌+◌, ◌<◌, ◌≤◌, ◌≤ℤ◌, ◌^◌, Bool, true, false, cond, List, [], ◌∷◌, ◌++◌, length, Option, Some, None, Result, Ok, Err, refl, sym, ap, subst, ◌∙◌, arith, length-append, append_assoc, append-nil}
-use Rattle.std.specs.Prelude.{nat_eq, int_rem, is_some, IfOk, IfErr, OnOk, OnErr, is_err}
+use Rattle.std.proofs.Common.{◌≡◌, ◌≢◌, ℕ, ℤ, pos, negsuc, ◌<◌, ◌≤ℤ◌, Bool, true, false, cond, List, [], ◌∷◌, ◌++◌, length, Option, Some, None, Result, Ok, Err, refl, sym, ap, subst, ◌∙◌, arith, length-append, append_assoc, append-nil}
+use Rattle.std.specs.Prelude.{nat_eq, is_some, IfOk, is_err}
 use Rattle.std.specs.Borrow.{MutBor}
 use Rattle.std.specs.List.{AllByRecursion}
 use Rattle.std.specs.Cmp.Lexicographic.{pointwise}
 use Rattle.std.proofs.lemmas.Bool.Decides.{Decides-eqb}
 use Rattle.std.proofs.lemmas.Slice.Eq.{slice_eq-Decides}
 use Rattle.turk_base.specs.declared.Entry.{Entry}
-use Rattle.turk_base.specs.declared.Record.{Record}
 use Rattle.turk_base.specs.declared.Record.TheVariants.{Draw}
 use Rattle.turk_base.specs.Trace.{at, answer, same_list}
 use Rattle.turk_base.specs.Whole.{IsWhole}
@@ -16,8 +15,7 @@ use Rattle.std.proofs.lemmas.Int.{ints}
 use Rattle.ask_model.specs.declared.AskStop.{AskStop}
 use Rattle.ask_model.specs.declared.AskStop.TheVariants.{Fault, Diverged, TraceFull, LogFull, Memory}
 use Rattle.ask_model.specs.declared.Refused.{Refused}
-use Rattle.ask_model.specs.Asker.{Pairs, entry, HasDistinctPaths, IsTrace, AreReplies, KnowsWithin, stop_of, refused_after, Adds, NoBoard, Drawn}
-use Rattle.ask_model.specs.Draws.{HaveWords, draws_in}
+use Rattle.ask_model.specs.Asker.{Pairs, entry, HasDistinctPaths, IsTrace, AreReplies, KnowsWithin, stop_of, refused_after, Adds, NoBoard}
 use Rattle.ask_model.specs.Table.{table, Added, Drew, Keeps}
 
 pub same : (a b : List ℕ) → a ≡ b → pointwise nat_eq a b ≡ true

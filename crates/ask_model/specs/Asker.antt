@@ -1,17 +1,16 @@
 -- What an asker is seen as, and what its calls do (own rules).
-use Rattle.std.specs.Prelude.{◌≡◌, ◌⊎◌, ◌+◌, ◌≤◌, ◌<◌, ℕ, ℤ, Bool, true, false, List, [], ◌∷◌, ◌++◌, length, Option, Some, None, Result, Ok, Err, IfOk, OnOk, is_some, ⊤}
+use Rattle.std.specs.Prelude.{◌≡◌, ◌⊎◌, ◌≤◌, ◌<◌, ℕ, ℤ, Bool, true, false, List, [], ◌∷◌, ◌++◌, length, Option, Some, None, Result, Ok, Err, IfOk, is_some, ⊤}
 use Rattle.std.specs.List.{AllByRecursion}
 use Rattle.outside.specs.Faults.{Rose}
 use Rattle.turk_base.specs.declared.Entry.{Entry}
 use Rattle.turk_base.specs.declared.Record.{Record}
-use Rattle.turk_base.specs.declared.Record.TheVariants.{Post, Reply, Draw, Once}
+use Rattle.turk_base.specs.declared.Record.TheVariants.{Reply, Draw}
 use Rattle.turk_base.specs.Trace.{at, below, answer}
 use Rattle.record_bytes.specs.Limits.{IsTextWithin, IsDraw, IsWithin}
 use Rattle.ask_model.specs.declared.Which.TheVariants.{Disk, Board}
 use Rattle.ask_model.specs.declared.Called.TheVariants as called
 use Rattle.ask_model.specs.declared.Kept.{Kept}
 use Rattle.ask_model.specs.declared.Kept.TheVariants as found
-use Rattle.ask_model.specs.declared.Divergence.{Divergence}
 use Rattle.ask_model.specs.declared.AskStop.{AskStop}
 use Rattle.ask_model.specs.declared.AskStop.TheVariants.{Fault, Diverged, TraceFull, LogFull, Memory}
 use Rattle.ask_model.specs.declared.Known.{Known}

@@ -1,5 +1,5 @@
 -- The draws among records are the words of a source, each modulo its bound (own rule).
-use Rattle.std.specs.Prelude.{◌≡◌, ◌+◌, ℕ, ℤ, pos, int_rem, List, []}
+use Rattle.std.specs.Prelude.{◌≡◌, ℕ, pos, int_rem, List, []}
 use Rattle.std.proofs.Common.{suc, ◌∷◌}
 use Rattle.turk_base.specs.declared.Entry.{Entry}
 use Rattle.turk_base.specs.declared.Record.{Record}

@@ -1,5 +1,5 @@
 -- What holds of a table in any state.
-use Rattle.std.specs.Prelude.{◌≡◌, ◌+◌, ℕ, ℤ, pos, int_rem, List, [], ◌++◌, refl}
+use Rattle.std.specs.Prelude.{◌≡◌, ◌+◌, ℕ, pos, int_rem, List, [], ◌++◌, refl}
 use Rattle.std.proofs.Common.{suc, ◌∷◌, sym, ap, ◌∙◌, subst, arith, append-nil, append_assoc}
 use Rattle.std.specs.Borrow.{MutBor}
 use Rattle.turk_base.specs.declared.Entry.{Entry}

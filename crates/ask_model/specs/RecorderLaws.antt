@@ -1,6 +1,6 @@
 -- What holds of the tests' recorder in any state.
-use Rattle.std.specs.Prelude.{◌≡◌, ◌⊎◌, ◌+◌, ◌≤◌, ℕ, Bool, true, false, List, [], ◌++◌, length, take, drop, Option, Some, None, is_some, refl, ⊤}
-use Rattle.std.proofs.Common.{inl, inr, ◌∷◌, sym, ap, ◌∙◌, subst, arith, append-nil, append_assoc, take-append-drop}
+use Rattle.std.specs.Prelude.{◌≡◌, ◌+◌, ◌≤◌, ℕ, false, List, [], ◌++◌, length, take, drop, is_some, refl}
+use Rattle.std.proofs.Common.{inl, inr, sym, ap, ◌∙◌, subst, arith, append-nil, append_assoc, take-append-drop}
 use Rattle.std.proofs.lemmas.List.{take_all}
 use Rattle.std.specs.Borrow.{MutBor}
 use Rattle.turk_base.specs.declared.Entry.{Entry}
@@ -92,9 +92,11 @@ module _ {S D W : Type 0} (rest : W → ℕ → ℕ) where
     more = h.more ++ g.more;
     gained = g.gained ∙ ap (λ (x : List Entry). x ++ g.more) h.gained ∙ append_assoc la h.more g.more;
     words = λ free.
-        let free_b = not_earlier rb rc g.follows free in
-        (words_on rest wa wb ra rb rc h.more g.more h.follows (h.words free_b).0 (g.words free) h.moved free_b, λ is.
-            let last = after_last ra rb h.follows free_b is in
-            ap (λ (x : List Entry). x ++ g.more) ((h.words free_b).1 is) ∙ (g.words free).1 last);
+        let free_b = not_earlier rb rc g.follows free in (
+          words_on rest wa wb ra rb rc h.more g.more h.follows (h.words free_b).0 (g.words free) h.moved free_b,
+          λ is.
+              let last = after_last ra rb h.follows free_b is in
+              ap (λ (x : List Entry). x ++ g.more) ((h.words free_b).1 is) ∙ (g.words free).1 last,
+        );
     moved = λ is k. g.moved is k ∙ h.moved (before_never rb rc g.follows is) (draws_in g.more + k) ∙ ap (rest wa.now) (omega (arith, draws_in_both h.more g.more));
   }

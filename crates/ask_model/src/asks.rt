@@ -77,11 +77,7 @@ pub fn reply_at<A: Asker>(
 
 /// A draw, where it could be asked.
 #[tactic(auto, using(crate::proofs::Finds::nothing_is))]
-pub fn draw_at<A: Asker>(
-    asker: &mut A,
-    path: &Path,
-    bound: Whole,
-) -> Result<Option<Whole>, AskStop>
+pub fn draw_at<A: Asker>(asker: &mut A, path: &Path, bound: Whole) -> Result<Option<Whole>, AskStop>
     requires sound { A.is_sound asker.old }
     requires open { (A.seen asker.old).closed ≡ false }
     requires bound { pos 1 ≤ℤ bound }

@@ -216,12 +216,7 @@ fn post_and_keep(
     }
 }
 
-fn keep(
-    alloc: Global,
-    shelf: &mut Shelf,
-    path: &Path,
-    what: Record,
-) -> Result<(), AskStop>
+fn keep(alloc: Global, shelf: &mut Shelf, path: &Path, what: Record) -> Result<(), AskStop>
     ensures shelved { Shelved (entry path.now what) shelf.old shelf.new (stop_of result) }
     ensures no_board { NoBoard (stop_of result) }
 {
@@ -231,12 +226,7 @@ fn keep(
     }
 }
 
-fn keep_once(
-    alloc: Global,
-    shelf: &mut Shelf,
-    path: &Path,
-    value: &Data,
-) -> Result<(), AskStop>
+fn keep_once(alloc: Global, shelf: &mut Shelf, path: &Path, value: &Data) -> Result<(), AskStop>
     ensures shelved { Shelved (entry path.now (Once value.now)) shelf.old shelf.new (stop_of result) }
     ensures no_board { NoBoard (stop_of result) }
 {

@@ -1,4 +1,4 @@
-use Rattle.std.proofs.Common.{◌≡◌, ◌++◌, ◌∷◌, [], None, rules, arith, inr, refl, subst, sym, ap, ◌∙◌, Some}
+use Rattle.std.proofs.Common.{◌≡◌, None, rules, arith, inr, ap, ◌∙◌}
 use Rattle.turk_base.specs.Trace.{answer}
 use Rattle.ask_model.proofs.Recorders.{answer_push}
 use Rattle.ask_model.proofs.recorder.place.Goals as goal

@@ -1,6 +1,4 @@
-use Rattle.std.proofs.Common.{◌≡◌, rules, refl}
-use Rattle.ask_model.specs.Asker.{Posts, stop_of}
-use Rattle.ask_model.specs.Recorder.{Placed, Shelved}
+use Rattle.ask_model.specs.Asker.{stop_of}
 use Rattle.ask_model.proofs.Recorders.{tasks_by}
 use Rattle.ask_model.proofs.recorder.post_and_keep.Goals as goal
 

@@ -1,4 +1,4 @@
-use Rattle.std.proofs.Common.{refl, arith, ap, sym, ◌∙◌, ℤ}
+use Rattle.std.proofs.Common.{refl, arith, ℤ}
 use Rattle.std.proofs.lemmas.Grind.{common_steps}
 use Rattle.std.specs.Prelude.{Result}
 use Rattle.turk_base.specs.declared.Record.TheVariants.{Draw}
@@ -24,7 +24,7 @@ returns-clause-sound g c =
     let s = c.args.self.now in
     let drew = c.keep_draw-result.ensures.drew in
     order_by s.shelf.now c.keep_draw-result.new.shelf s.start (entry c.args.path.now (Draw c.args.bound drew.value)) (stop_of c.keep_draw-result.result) s.desk.now.tasks s.desk.now.tasks s.desk.now.faults s.desk.now.faults s.replies.now s.asked s.refused c.after-self.result
-        c.requires.sound (record { some = c.requires.path.some; short = c.requires.path.short; what = drew.small }) c.requires.new drew.shelved
+    c.requires.sound (record { some = c.requires.path.some; short = c.requires.path.short; what = drew.small }) c.requires.new drew.shelved
 
 pub returns-clause-keeps : goal.returns-clause-keeps
 returns-clause-keeps g c =

@@ -12,7 +12,7 @@ returns-clause-sound g c =
     let s = c.args.self.now in
     let d = c.post_and_keep-result.new.desk in
     order_by s.shelf.now c.post_and_keep-result.new.shelf s.start (entry c.args.path.now (Post c.args.text.now)) (stop_of c.post_and_keep-result.result) s.desk.now.tasks d.tasks s.desk.now.faults d.faults s.replies.now s.asked s.refused c.after-self.result
-        c.requires.sound c.requires.within c.requires.new c.post_and_keep-result.ensures.shelved
+    c.requires.sound c.requires.within c.requires.new c.post_and_keep-result.ensures.shelved
 
 pub returns-clause-keeps : goal.returns-clause-keeps
 returns-clause-keeps g c =

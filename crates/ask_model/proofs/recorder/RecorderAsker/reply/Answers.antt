@@ -14,4 +14,4 @@ returns-in-Ok-clause-sound g c =
     let path = c.args.path.now in
     let found : answer s.replies.now token ≡ Some text = search rules in
     order_by s.shelf.now c.keep_reply-result.new.shelf s.start (entry path (Reply token text)) (stop_of c.keep_reply-result.result) s.desk.now.tasks s.desk.now.tasks s.desk.now.faults s.desk.now.faults s.replies.now s.asked s.refused c.after-self-2.result
-        c.requires.sound (record { some = c.requires.path.some; short = c.requires.path.short; what = (c.requires.token, answer_within s.replies.now token text c.requires.sound.within.replies found) }) c.requires.new c.keep_reply-result.ensures.shelved
+    c.requires.sound (record { some = c.requires.path.some; short = c.requires.path.short; what = (c.requires.token, answer_within s.replies.now token text c.requires.sound.within.replies found) }) c.requires.new c.keep_reply-result.ensures.shelved

@@ -1,10 +1,9 @@
-use Rattle.std.proofs.Common.{rules, ◌≡◌, length, ℤ, pos, refl, ap, sym, subst, ◌∙◌, ◌≤ℤ◌}
-use Rattle.std.specs.Prelude.{is_some, is_err, Result}
+use Rattle.std.proofs.Common.{rules, ◌≡◌, length, ℤ, refl}
+use Rattle.std.specs.Prelude.{Result}
 use Rattle.turk_base.specs.declared.Record.TheVariants.{Draw}
 use Rattle.turk_base.specs.Whole.{IsWhole}
 use Rattle.ask_model.specs.declared.AskStop.{AskStop}
-use Rattle.ask_model.specs.declared.Refused.{Refused}
-use Rattle.ask_model.specs.Asker.{entry, stop_of, refused_after, Adds}
+use Rattle.ask_model.specs.Asker.{entry, stop_of, Adds}
 use Rattle.ask_model.specs.Table.{table}
 use Rattle.ask_model.proofs.Tables.{sound_by, adds_by, no_board_by, value_in, drew_added, drew_small, drew_keeps, drew_is, least_draw, refused_is}
 use Rattle.ask_model.proofs.table.TableAskerAsker.draw.Goals as goal
@@ -51,8 +50,8 @@ returns-clause-sound g c =
     let whole : IsWhole bound = search rules in
     let small = drew_small g.W.Draws.rest c.len.result s.made.items new path bound _ _ r (least_draw bound c.requires.bound whole) drew in
     sound_by c.len.result s.trace.items s.made.items new s.replies.now s.asked s.refused c.after-self.result (entry path (Draw bound (value_in r))) (stop_of r) count c.requires.sound
-        (record { some = c.requires.path.some; short = c.requires.path.short; what = small })
-        c.requires.new (drew_added g.W.Draws.rest c.len.result s.made.items new path bound _ _ r drew)
+    (record { some = c.requires.path.some; short = c.requires.path.short; what = small })
+    c.requires.new (drew_added g.W.Draws.rest c.len.result s.made.items new path bound _ _ r drew)
 
 pub returns-clause-keeps : goal.returns-clause-keeps
 returns-clause-keeps g c =

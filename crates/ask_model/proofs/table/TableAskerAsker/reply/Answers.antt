@@ -14,5 +14,5 @@ returns-in-Ok-clause-sound g c =
     let count : c.len.result ≡ length s.trace.items = search rules in
     let found : answer s.replies.now token ≡ Some text = search rules in
     sound_by c.len.result s.trace.items s.made.items c.add_reply-result.new.made.items s.replies.now s.asked s.refused c.after-self-2.result (entry path (Reply token text)) (stop_of c.add_reply-result.result) count c.requires.sound
-        (record { some = c.requires.path.some; short = c.requires.path.short; what = (c.requires.token, answer_within s.replies.now token text c.requires.sound.replies found) })
-        c.requires.new c.add_reply-result.ensures.added
+    (record { some = c.requires.path.some; short = c.requires.path.short; what = (c.requires.token, answer_within s.replies.now token text c.requires.sound.replies found) })
+    c.requires.new c.add_reply-result.ensures.added
