@@ -88,7 +88,13 @@ fn a_file_is_a_disk(rt: HostRuntime) -> Result<(), Fail> {
     let mut again = FileDisk::new(&rt, rt.alloc(), path)?;
     assert_eq!(rt; again.size(), Ok(4));
     // A folder, no name, a file in no folder, one in a file, and one that the system lets nobody make.
-    for bad in [".", "", "missing.folder/file", "disk_model.tried/file", "/sys/turkit.tried"] {
+    for bad in [
+        ".",
+        "",
+        "missing.folder/file",
+        "disk_model.tried/file",
+        "/sys/turkit.tried",
+    ] {
         let mut none = FileDisk::new(&rt, rt.alloc(), bad)?;
         assert_eq!(rt; none.size(), Err(DiskFailed), "at {bad}");
         assert_eq!(rt; none.write_at(0, b"a"), Err(DiskFailed), "at {bad}");
