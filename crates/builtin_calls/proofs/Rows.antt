@@ -167,7 +167,7 @@ called_out {f} {s} {t} heap.Memory (Err y) m x = subst (λ y. Called f (Err y) s
 -- ---- an error is thrown
 
 pub thrown : {f : Naming → Prog} (s : Seen) (stop : CallStop) → stop ≡ Throw 0 (codes "not a function") → ((nu : Naming) → f nu ≡ not_a_function) → Called f (Err stop) s s
-thrown {f} s stop e same = subst (λ x. Called f (Err x) s s) (sym e) (onward_eq same)
+thrown {f} s stop e same = subst (λ x. Called f (Err x) s s) (sym e) (refl, onward_eq same)
 
 pub lost : (f : Naming → Prog) (s : Seen) (r : Result Value CallStop) → IsErrAnd r (λ x. x ≡ Memory) → Called f r s s
 lost f s r m = called_out heap.Memory r m failed

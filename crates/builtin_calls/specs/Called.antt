@@ -26,11 +26,11 @@ abbrev pub error_prototype : ℕ → Name
 error_prototype zero = built_in 3
 error_prototype (suc n) = built_in 5
 
--- A value or a stop is what the program came to. Where an error is thrown, what is left of the program is to throw it: the
--- message is not paid and the error's cell not made yet.
+-- A value or a stop is what the program came to. Where an error is thrown, the heap is as before, and what is left of the
+-- program is to throw it: the message is not paid and the error's cell not made yet.
 abbrev pub Called : (Naming → Prog) → Result Value CallStop → Seen → Seen → Type 0
 Called f (Ok v) old new = Runs f (λ nu. Says (Normal (val_in nu v))) old new
-Called f (Err (Throw kind message)) old new = Onward f (λ nu. throw_error (error_prototype kind) message) old new
+Called f (Err (Throw kind message)) old new = (new ≡ old) × Onward f (λ nu. throw_error (error_prototype kind) message) old new
 Called f (Err NotWhole) old new = Runs f (λ nu. Refuses model.NotWhole) old new
 Called f (Err NoPrimitive) old new = Runs f (λ nu. Refuses model.NoPrimitive) old new
 Called f (Err TooLong) old new = Runs f (λ nu. Refuses model.TooLong) old new
