@@ -72,9 +72,9 @@ no_memory {g} {m} = record {
   ran = λ nu f E s b l c. fails (record { holds = λ k. front _ refl });
 }
 
-pub then_on : {g : Naming → Prog} {go : Naming → Val → Prog} {v : Naming → Val} {t : Naming → Told} {old mid new : Moment} →
+pub then_on : {g : Naming → Prog} (go : Naming → Val → Prog) {v : Naming → Val} {t : Naming → Told} {old mid new : Moment} →
     Runs g (λ nu. Says (Normal (v nu))) old mid → Runs (λ nu. go nu (v nu)) t mid new → Runs (λ nu. Then (g nu) (go nu)) t old new
-then_on {g} {go} {v} {t} {old} {mid} {new} x y = record {
+then_on {g} go {v} {t} {old} {mid} {new} x y = record {
   same = same_trans x.same y.same;
   within = λ nu z. within_trans y.same (x.within nu tt) (y.within nu z);
   added = x.added ++ y.added;
@@ -83,9 +83,9 @@ then_on {g} {go} {v} {t} {old} {mid} {new} x y = record {
   ran = λ nu f E s b l c. let p = later x y nu f E s b l c in comes_then p.0 p.1;
 }
 
-pub then_out : {g : Naming → Prog} {go : Naming → Val → Prog} {t : Naming → Told} {old new : Moment} → ((nu : Naming) → NoValue (t nu)) →
+pub then_out : {g : Naming → Prog} (go : Naming → Val → Prog) {t : Naming → Told} {old new : Moment} → ((nu : Naming) → NoValue (t nu)) →
     Runs g t old new → Runs (λ nu. Then (g nu) (go nu)) t old new
-then_out {g} {go} {t} {old} {new} n x = record {
+then_out {g} go {t} {old} {new} n x = record {
   same = x.same;
   within = x.within;
   added = x.added;
@@ -94,9 +94,9 @@ then_out {g} {go} {t} {old} {new} n x = record {
   ran = λ nu f E s b l c. comes_out (n nu) (x.ran nu f E s b l c);
 }
 
-pub always_on : {g : Naming → Prog} {go : Naming → Outcome → Prog} {o : Naming → Outcome} {t : Naming → Told} {old mid new : Moment} →
+pub always_on : {g : Naming → Prog} (go : Naming → Outcome → Prog) {o : Naming → Outcome} {t : Naming → Told} {old mid new : Moment} →
     Runs g (λ nu. Says (o nu)) old mid → Runs (λ nu. go nu (o nu)) t mid new → Runs (λ nu. Always (g nu) (go nu)) t old new
-always_on {g} {go} {o} {t} {old} {mid} {new} x y = record {
+always_on {g} go {o} {t} {old} {mid} {new} x y = record {
   same = same_trans x.same y.same;
   within = λ nu z. within_trans y.same (x.within nu tt) (y.within nu z);
   added = x.added ++ y.added;
@@ -105,9 +105,9 @@ always_on {g} {go} {o} {t} {old} {mid} {new} x y = record {
   ran = λ nu f E s b l c. let p = later x y nu f E s b l c in comes_always p.0 p.1;
 }
 
-pub always_out : {g : Naming → Prog} {go : Naming → Outcome → Prog} {t : Naming → Told} {old new : Moment} → ((nu : Naming) → NoOutcome (t nu)) →
+pub always_out : {g : Naming → Prog} (go : Naming → Outcome → Prog) {t : Naming → Told} {old new : Moment} → ((nu : Naming) → NoOutcome (t nu)) →
     Runs g t old new → Runs (λ nu. Always (g nu) (go nu)) t old new
-always_out {g} {go} {t} {old} {new} n x = record {
+always_out {g} go {t} {old} {new} n x = record {
   same = x.same;
   within = x.within;
   added = x.added;
@@ -131,8 +131,8 @@ onward_then x y = record { goes = λ t last r. x.goes t last (y.goes t last r) }
 
 -- a node that was evaluated is a step
 pub evaluated : {g : Naming → Prog} {old new : Moment} (r : Result Value Exit) → Runs g (λ nu. told_value nu r) old new → Takes (λ nu. Then (g nu)) val_in r old new
-evaluated (Ok v) x = record { goes = λ go. record { goes = λ t last y. then_on x y } }
-evaluated (Err e) x = record { ends = λ go. then_out (λ nu. exit_no_value nu e) x }
+evaluated (Ok v) x = record { goes = λ go. record { goes = λ t last y. then_on (go) x y } }
+evaluated (Err e) x = record { ends = λ go. then_out go (λ nu. exit_no_value nu e) x }
 
 -- a step that goes on with another
 pub gives_on : {A B : Type 0} {f : Naming → Step A} {a : Naming → A} {s t : Moment} → Gives f a s t → (k : Naming → A → Step B) →

@@ -1,0 +1,30 @@
+-- Exits of the functions of an evaluator: a `?` hands an exit on.
+use Rattle.std.specs.Prelude.{Result, Ok, Err}
+use Rattle.std.proofs.Common.{◌≡◌, sym, subst, IsErrAnd}
+use Rattle.turk_base.specs.Prog.{Prog, Then}
+use Rattle.turk_base.specs.Values.{Val}
+use Rattle.value_cells.specs.declared.Value.{Value}
+use Rattle.value_cells.specs.Seen.{Naming}
+use Rattle.run_host.specs.declared.Exit.{Exit}
+use Rattle.run_host.specs.declared.Flow.{Flow}
+use Rattle.run_host.specs.Moment.{Moment}
+use Rattle.run_host.specs.Told.{told_exit, told_value, told_flow}
+use Rattle.run_host.specs.Did.{Runs}
+use Rattle.run_host.specs.Steps.{Step, Leaves, Takes}
+use Rattle.run_host.proofs.Sequence.{then_out, exit_no_value}
+
+pub value_exit : {f : Naming → Prog} {s t : Moment} (e : Exit) (r : Result Value Exit) → IsErrAnd r (λ x. x ≡ e) → Runs f (λ nu. told_exit nu e) s t → Runs f (λ nu. told_value nu r) s t
+value_exit e (Ok b) m x = absurd m
+value_exit {f} {s} {t} e (Err y) m x = subst (λ y. Runs f (λ nu. told_exit nu y) s t) (sym m) x
+
+pub flow_exit : {f : Naming → Prog} {s t : Moment} (e : Exit) (r : Result Flow Exit) → IsErrAnd r (λ x. x ≡ e) → Runs f (λ nu. told_exit nu e) s t → Runs f (λ nu. told_flow nu r) s t
+flow_exit e (Ok b) m x = absurd m
+flow_exit {f} {s} {t} e (Err y) m x = subst (λ y. Runs f (λ nu. told_exit nu y) s t) (sym m) x
+
+pub takes_exit : {A B : Type 0} {f : Naming → Step A} {s t : Moment} {e : Exit} (h : Naming → B → A) (r : Result B Exit) → IsErrAnd r (λ x. x ≡ e) → Leaves f e s t → Takes f h r s t
+takes_exit h (Ok b) m x = absurd m
+takes_exit {A} {B} {f} {s} {t} {e} h (Err y) m x = subst (λ y. Leaves f y s t) (sym m) x
+
+-- the first of two programs ended otherwise than with a value
+pub first_out : {g : Naming → Prog} (go : Naming → Val → Prog) {s t : Moment} (e : Exit) → Runs g (λ nu. told_exit nu e) s t → Runs (λ nu. Then (g nu) (go nu)) (λ nu. told_exit nu e) s t
+first_out go e x = then_out go (λ nu. exit_no_value nu e) x

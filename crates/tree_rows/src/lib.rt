@@ -1,0 +1,8 @@
+//! The rows of the evaluator: what each kind of node does, over a host and over what runs the nodes below.
+#![tactic(auto)]
+
+mod below;
+mod codes;
+
+pub use below::Below;
+pub use codes::{CodeRef, Codes};
