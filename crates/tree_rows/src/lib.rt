@@ -3,6 +3,8 @@
 
 mod below;
 mod codes;
+mod statements;
+mod values;
 
 pub use below::Below;
 pub use codes::{CodeRef, Codes};
