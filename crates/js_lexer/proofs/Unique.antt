@@ -1,13 +1,13 @@
 -- The bytes have one list of tokens or one first fault, and never both.
-use Rattle.std.proofs.Common.{◌≡◌, ◌≢◌, ◌≤◌, ◌<◌, ◌+◌, ◌-◌, ℕ, zero, suc, Bool, true, false, not, ◌||◌, ◌&&◌, ◌==◌, List, [], ◌∷◌, ◌++◌, length, take, get_or, Option, Some, None, Result, Ok, Err, refl, sym, ◌∙◌, ap, subst, ◌⊎◌, inl, inr, pos, arith}
-use Rattle.std.specs.Prelude.{slice_range, encode_utf8_all, MatchBool}
-use Rattle.std.specs.Str.{IsUtf8, IsValidUpTo}
+use Rattle.std.proofs.Common.{◌≡◌, ◌≤◌, ◌<◌, ◌+◌, ◌-◌, ℕ, Bool, true, false, List, ◌++◌, length, take, get_or, Result, Ok, Err, refl, sym, ◌∙◌, ap, subst, ◌⊎◌, inl, inr, pos, arith}
+use Rattle.std.specs.Prelude.{slice_range, encode_utf8_all, MatchBool, Vec, IfOk}
+use Rattle.std.specs.declared.alloc.Global.{Global}
+use Rattle.std.specs.Str.{IsValidUpTo}
 use Rattle.std.specs.Str.Lossy.{utf8_valid_len}
 use Rattle.std.proofs.lemmas.Str.{encodes_same, utf8_valid_len-IsUtf8, utf8_valid_len-IsValidUpTo}
 use Rattle.std.proofs.Math.Seq.{take-length}
-use Rattle.js_lexer.specs.Chars.{is_white, is_line_end, is_digit, is_quote, starts}
-use Rattle.js_lexer.specs.Pieces.{IsLineComment, IsBlockComment, HasLineEnd, IsWord, IsNumber, IsDigits, IsText, IsMark, Spells, value}
-use Rattle.js_lexer.specs.Tokens.{IsOne, IsWordAs, StandsAs, IsComment, to_line_end, closed, Stands, Longest, word_kind, IsOpen, open_comment, open_text, Refused, Reason, begins_number, line_after, token_of, byte_of, Cut, done, step, Fails, at_byte, refused, later, fault_at, Decodes, Tokens, FirstFault, first_place, Answers, IsOnly}
+use Rattle.js_lexer.specs.Pieces.{HasLineEnd, IsNumber, IsText, IsMark}
+use Rattle.js_lexer.specs.Tokens.{IsWordAs, StandsAs, IsComment, to_line_end, closed, Stands, Longest, word_kind, IsOpen, open_comment, open_text, Reason, begins_number, line_after, token_of, byte_of, Cut, done, step, Fails, at_byte, refused, later, fault_at, Decodes, Tokens, FirstFault, first_place, Answers, IsOnly, EndsOnce, last, more, items_of}
 use Rattle.js_lexer.specs.declared.Mark.{Mark}
 use Rattle.js_lexer.specs.declared.Kind.{Kind}
 use Rattle.js_lexer.specs.declared.Kind.TheVariants as kind
@@ -304,6 +304,22 @@ pub one_fault : (bytes : List ℕ) (f g : LexStop) → FirstFault bytes f → Fi
 one_fault bytes f g x y =
     let e = one_text bytes x.0 y.0 x.1 y.1 x.2 y.2 in
     fails_one x.3 (subst (λ b. Fails x.0 b (first_place x.0) g) (sym e.1) (subst (λ t. Fails t y.1 (first_place t) g) (sym e.0) y.3)) refl
+
+-- ---- the end
+
+pub ends_once : {text : List ℕ} {a : Bool} {i : ℕ} {ts : List Token} → Cut text a i ts → EndsOnce ts
+ends_once (done e f) = subst EndsOnce (sym f) (last refl)
+ends_once {text} {a} {i} (step {j = j} {p = p} {us = us} l c g) = subst EndsOnce (sym g) (go p l.stands (ends_once c))
+  where
+    go : (p : Piece) → Stands text p i j → EndsOnce us → EndsOnce (token_of p (byte_of text i) (byte_of text j) a ++ us)
+    go piece.Blank s x = x
+    go piece.Line s x = x
+    go (piece.Comment line) s x = x
+    go (piece.Token k) s x = more (λ e. subst (λ y. StandsAs text y i j) e s) x
+
+pub answer_ends : (bytes : List ℕ) (r : Result (Vec Token Global) LexStop) → Answers bytes (items_of r) → IfOk r (λ found. EndsOnce found.items)
+answer_ends bytes (Ok found) a = ends_once a.1.2
+answer_ends bytes (Err f) a = tt
 
 -- ---- the answer on the bytes
 

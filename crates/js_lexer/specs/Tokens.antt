@@ -187,6 +187,11 @@ Tokens bytes ts = (text : List ℕ) × Decodes bytes text false × Cut text fals
 abbrev pub FirstFault : List ℕ → LexStop → Type 0
 FirstFault bytes f = (text : List ℕ) × (broken : Bool) × Decodes bytes text broken × Fails text broken (first_place text) f
 
+-- the end is the last token, and no other is
+pub data EndsOnce : List Token → Type 0 where
+  last : {t : Token} → t.kind ≡ kind.End → EndsOnce (t ∷ [])
+  more : {t : Token} {ts : List Token} → t.kind ≢ kind.End → EndsOnce ts → EndsOnce (t ∷ ts)
+
 -- the answer on bytes (own rule: at most 1,048,576 of them)
 abbrev pub Answers : List ℕ → Result (List Token) LexStop → Type 0
 Answers bytes (Ok ts) = (length bytes ≤ 1048576) × Tokens bytes ts

@@ -4,7 +4,7 @@ ghost use Rattle.std.specs.Str.{chars, IsUtf8};
 ghost use Rattle.js_lexer.specs.declared.Token.{Token};
 ghost use Rattle.js_lexer.specs.declared.LexStop.{LexStop};
 ghost use Rattle.js_lexer.specs.Tokens as spec;
-ghost use Rattle.js_lexer.specs.Tokens.{CutSo, Decodes, Answers, Tokens, FirstFault, IsOnly};
+ghost use Rattle.js_lexer.specs.Tokens.{CutSo, Decodes, Answers, Tokens, FirstFault, IsOnly, EndsOnce};
 
 use crate::chars::at;
 use crate::pieces::piece;
@@ -144,7 +144,7 @@ fn read(alloc: Global, bytes: &[u8]) -> Result<Vec<Token>, LexStop>
     cut(alloc, &text, first, broken)
 }
 
-/// Cuts a script into its tokens, the last of which is `End` at the length of the bytes.
+/// Cuts a script into its tokens, the last of which is `End` at the length of the bytes, and no other.
 ///
 /// It takes at most 1,048,576 bytes of UTF-8; one U+FEFF at the start is skipped. A place is a byte's
 /// index. The answers other than Ok: `TooLarge` exactly past that length; else the first of these
@@ -156,6 +156,7 @@ fn read(alloc: Global, bytes: &[u8]) -> Result<Vec<Token>, LexStop>
 /// fractions and exponents, and with the words of script calls.
 pub fn tokens(alloc: Global, bytes: &[u8]) -> Result<Vec<Token>, LexStop>
     ensures answer { Answers bytes.now (spec.items_of result) }
+    ensures end { IfOk result (λ found. EndsOnce found.items) }
     ensures tokens_only { (ts : List Token) → length bytes.now ≤ 1048576 → Tokens bytes.now ts → IsOnly (spec.items_of result) (Ok ts) }
     ensures fault_only { (f : LexStop) → length bytes.now ≤ 1048576 → FirstFault bytes.now f → IsOnly (spec.items_of result) (Err f) }
 {

@@ -1,5 +1,5 @@
 -- What the table reads, the productions read.
-use Rattle.std.proofs.Common.{◌≡◌, ℕ, zero, suc, ◌+◌, max, Bool, true, false, Option, Some, None, List, [], ◌∷◌, ◌++◌, refl, ap, sym, ◌∙◌, subst, arith, inl, inr, append_assoc}
+use Rattle.std.proofs.Common.{◌≡◌, ℕ, zero, suc, ◌+◌, max, Bool, true, false, Option, Some, None, List, [], ◌∷◌, ◌++◌, refl, ap, sym, ◌∙◌, subst, arith, ◌≤◌, ◌⊎◌, inl, inr, append_assoc}
 use Rattle.js_lexer.specs.declared.Mark.TheVariants as m
 use Rattle.js_lexer.specs.declared.Reserved.TheVariants as w
 use Rattle.js_tree.specs.declared.Script as script
@@ -7,12 +7,13 @@ use Rattle.js_lexer.specs.declared.Token.{Token}
 use Rattle.js_parser.specs.declared.classes.Infix.{Infix}
 use Rattle.js_parser.specs.declared.classes.Prefix.{Prefix}
 use Rattle.js_parser.specs.declared.classes.Tail.{Tail}
-use Rattle.js_parser.specs.Words.{is, is_word, Units, infix_at, assign_of, prefix_of, step_of, tail_of, key_of}
+use Rattle.js_parser.specs.Words.{is, is_word, Units, infix_at, assign_of, prefix_of, prefixed, step_of, tail_of, key_of}
 use Rattle.js_parser.specs.declared.classes.Prefix.TheVariants as prefix
 use Rattle.js_parser.specs.declared.classes.Tail.TheVariants as tail
 use Rattle.js_tree.specs.declared.Sign.{Sign}
 use Rattle.js_tree.specs.declared.Expr as expr
 use Rattle.js_tree.specs.declared.Key.TheVariants as k
+use Rattle.js_tree.specs.declared.Key.{Key}
 use Rattle.js_parser.specs.Productions.{goes_on}
 use Rattle.std.proofs.Common.{◌&&◌, not}
 use Rattle.js_parser.specs.declared.classes.Operand.{Operand}
@@ -22,7 +23,9 @@ use Rattle.js_parser.specs.Rules.Rule.{give, peek, read}
 use Rattle.js_tree.specs.Trees.{field_of}
 use Rattle.js_tree.specs.Trees.{ExprLevel, expr_level}
 use Rattle.js_tree.specs.declared.ExprNode.TheOpen.{ExprNode-F}
-use Rattle.js_parser.specs.Grammar.{grammar, expect, more_by, assign_by, target, deleted_level, unary_by, postfix_by, with_suffixes, given_arguments, fixed, as_read, a_member, suffixes_by, new_after, plain, go_on, field_by, name_by, parameters, function, primary_by}
+use Rattle.js_tree.specs.declared.ExprNode.{out-ExprNode}
+use denote.Hole.Carrier.{out}
+use Rattle.js_parser.specs.Grammar.{grammar, expect, more_by, assign_by, target, level_names, deleted_level, deleted_step, deleted_by, delete_operand, unary_by, postfix_by, with_suffixes, given_at, given_arguments, fixed, as_read, a_member, a_name_as, suffixes_by, new_after, plain, go_on, field_by, name_by, parameters, function, primary_by}
 use Rattle.js_parser.specs.Exprs as made
 use Rattle.js_tree.specs.declared.Field as field
 use Rattle.js_parser.specs.declared.classes.Name.{Name}
@@ -46,6 +49,18 @@ Body = Table (s.Elements true [] [])
 abbrev R : (n : Part) → List Token → Of n → ℕ → List Token → Type 0
 R = Reads Body
 
+-- What was deleted: a member as written, which is what stood to the left or a longer one.
+pub record Removed (xs : List Token) (left : Operand) (height : ℕ) (v : Operand) (h : ℕ) (rest : List Token) : Type 0 where
+  pub operand : Operand
+  pub tall : ℕ
+  pub base : expr.Expr
+  pub key : Key
+  pub value : v ≡ plain (made.Delete base key)
+  pub written : operand.target ≡ true
+  pub level : expr_level operand.expr ≡ ExprNode-F.Member base key
+  pub reads : R p.Postfix xs operand tall rest
+  pub longer : ((operand ≡ left) × (h ≡ 0) × (tall ≡ height)) ⊎ ((tall ≡ h) × (1 + height ≤ h))
+
 -- What a symbol of the table is among the productions: a symbol that carries what stands to its left goes on from there.
 abbrev pub Meant : (n : Symbol) → List Token → Value n → ℕ → List Token → Type 0
 Meant (s.Expr no_in) ts v h rest = R (p.Expr no_in) ts v h rest
@@ -59,6 +74,7 @@ Meant s.Unary ts v h rest = R p.Unary ts v h rest
 Meant s.Postfix ts v h rest = R p.Postfix ts v h rest
 Meant s.Left ts v h rest = R (p.Whole true) ts v h rest
 Meant (s.Suffixes calls left height) ts v h rest = (xs : List Token) → R (p.Stem calls) xs left height ts → R (p.Whole calls) xs v (max height h) rest
+Meant (s.Deleted left height) ts v h rest = (xs : List Token) → R (p.Stem true) xs left height ts → Removed xs left height v h rest
 Meant s.New ts v h rest = R p.New ts v h rest
 Meant (s.Arguments so_far) ts v h rest = (all : _) × (v ≡ so_far ++ all) × R p.Arguments ts all h rest
 Meant (s.Items so_far) ts v h rest = (all : _) × (v ≡ so_far ++ all) × R p.Items ts all h rest
@@ -94,7 +110,7 @@ target_of_postfix : {ts rest : List Token} {a : Operand} {h : ℕ} → R p.Postf
 target_of_postfix (r.step g e e' e'') q = absurd (let x : false ≡ true = q in cc)
 target_of_postfix (r.no_step g e) q = g
 
-target_of_unary : {ts rest : List Token} {a : Operand} {h : ℕ} → R p.Unary ts a h rest → target a ≡ true → R (p.Whole true) ts a h rest
+pub target_of_unary : {ts rest : List Token} {a : Operand} {h : ℕ} → R p.Unary ts a h rest → target a ≡ true → R (p.Whole true) ts a h rest
 target_of_unary (r.delete e g e' e'') q = absurd (let x : false ≡ true = q in cc)
 target_of_unary (r.void e g) q = absurd (let x : false ≡ true = q in cc)
 target_of_unary (r.typeof e g) q = absurd (let x : false ≡ true = q in cc)
@@ -137,13 +153,48 @@ more no_in (suc level) left height ts = on_peek (Meant (s.More no_in (suc level)
 
 -- ---- unary, postfix
 
-deleted_at : (ts : List Token) (t : Token) (a : Operand) (i : ℕ) (us : List Token) → prefix_of t.kind ≡ prefix.Delete → R p.Unary ts a i us → (b : Bool) → a.target ≡ b → (x : ExprLevel) → expr_level a.expr ≡ x
-    → Then Meant s.Unary (deleted_level b x) us (λ v h rest. R p.Unary (t ∷ ts) v (max 1 (max (0 + i) h)) rest)
-deleted_at ts t a i us e g true y (ExprNode-F.Member base key) q = on_give (at {h = max 1 i} (omega arith) (r.delete e g y q))
-deleted_at ts t a i us e g _ y _ q = on_refuse
+-- no operand is a member as written before a suffix stands after it
+abbrev NoMember : Operand → Type 0
+NoMember a = (base : expr.Expr) (key : Key) → a.target ≡ true → expr_level a.expr ≡ ExprNode-F.Member base key → ⊥
+
+name_no_member : (units : Units) → NoMember (a_name_as units)
+unfolding out-ExprNode out
+name_no_member units base key y z = let x : true ≡ false = ap level_names z in cc
+
+pub primary_no_member : {ts rest : List Token} {a : Operand} {h : ℕ} → R p.Primary ts a h rest → NoMember a
+primary_no_member (r.this q) = λ base key y z. let x : false ≡ true = y in cc
+primary_no_member (r.identifier {units = units} q) = name_no_member units
+primary_no_member (r.literal q) = λ base key y z. let x : false ≡ true = y in cc
+primary_no_member (r.parentheses q g e) = λ base key y z. let x : false ≡ true = y in cc
+primary_no_member (r.array_empty q e) = λ base key y z. let x : false ≡ true = y in cc
+primary_no_member (r.array q g e) = λ base key y z. let x : false ≡ true = y in cc
+primary_no_member (r.object_empty q e) = λ base key y z. let x : false ≡ true = y in cc
+primary_no_member (r.object q g e) = λ base key y z. let x : false ≡ true = y in cc
+primary_no_member (r.print q e g) = λ base key y z. let x : false ≡ true = y in cc
+primary_no_member (r.with_one q e g e') = λ base key y z. let x : false ≡ true = y in cc
+primary_no_member (r.with_none q e e') = λ base key y z. let x : false ≡ true = y in cc
+primary_no_member (r.function_alone q g e b e') = λ base key y z. let x : false ≡ true = y in cc
+primary_no_member (r.function_named q q' g e b e') = λ base key y z. let x : false ≡ true = y in cc
+
+pub new_no_member : {ts rest : List Token} {a : Operand} {h : ℕ} → R p.New ts a h rest → NoMember a
+new_no_member (r.new_with q g e g') = λ base key y z. let x : false ≡ true = y in cc
+new_no_member (r.new_alone q g e) = λ base key y z. let x : false ≡ true = y in cc
+
+removed : {t : Token} {us rest : List Token} {a b : Operand} {i j : ℕ} → prefix_of t.kind ≡ prefix.Delete → NoMember a → Removed us a i b j rest
+    → R p.Unary (t ∷ us) b (max 1 (max (1 + i) (max (0 + j) 0))) rest
+removed {t} {us} {rest} {a} {b} {i} {j} e never s = elim s.longer [
+  | inl q ↦ absurd (never s.base s.key (ap (λ x. x.target) (sym q.0) ∙ s.written) (ap (λ x. expr_level x.expr) (sym q.0) ∙ s.level))
+  | inr q ↦ (let k : s.tall ≡ j = q.0 in let l : 1 + i ≤ j = q.1 in
+      subst (λ x. R p.Unary (t ∷ us) x (max 1 (max (1 + i) (max (0 + j) 0))) rest) (sym s.value)
+      (at {h = max 1 s.tall} (omega arith) (r.delete e (r.postfix s.reads) s.written s.level)))
+]
 
 unary_at : (t : Token) (ts : List Token) (o : Prefix) → prefix_of t.kind ≡ o → Then Meant s.Unary (unary_by o) (t ∷ ts) (Meant s.Unary (t ∷ ts))
-unary_at t ts prefix.Delete e = on_node (on_read (λ a i us g. deleted_at ts t a i us e g a.target refl (expr_level a.expr) refl))
+unary_at t ts prefix.Delete e = on_node (on_peek (λ ts v h rest. R p.Unary (t ∷ ts) v (max 1 h) rest) ts (λ u us. on_either (prefixed u.kind)
+    (λ q. on_read (λ a i vs g. on_refuse))
+    (λ q. on_either (is_word w.New u)
+    (λ q'. on_read (λ a i vs g. on_read (λ b j ws g'. on_give (removed e (new_no_member g) (g' (u ∷ us) (r.new g))))))
+    (λ q'. on_read (λ a i vs g. on_read (λ b j ws g'. on_give (removed e (primary_no_member g) (g' (u ∷ us) (r.primary g)))))))))
 unary_at t ts prefix.Void e = on_node (on_read (λ a i us g. on_give (at {h = 1 + i} (omega arith) (r.void e g))))
 unary_at t ts prefix.Typeof e = on_node (on_read (λ a i us g. on_give (at {h = 1 + i} (omega arith) (r.typeof e g))))
 unary_at t ts (prefix.Update step) e = on_node (on_read (λ a i us g. on_either (target a)
@@ -194,17 +245,23 @@ left ts = stem 0 true (λ v. give v) ts (λ a i us g. on_give (at {h = i} (omega
 all_of : {ts rest : List Token} {all : List expr.Expr} {h : ℕ} → Meant (s.Arguments []) ts all h rest → R p.Arguments ts all h rest
 all_of {ts} {rest} {all} {h} g = subst (λ x. R p.Arguments ts x h rest) (sym g.1) g.2
 
+on_given_at : {n : Symbol} (k : ℕ) (rule : List expr.Expr → ℕ → Rule n) (ts : List Token) {Q : Value n → ℕ → List Token → Type 0}
+    → ((us : List Token) → R p.Given ts [] 0 us → Then Meant n (rule [] 0) us Q)
+    → ((all : List expr.Expr) (i : ℕ) (us : List Token) → R p.Given ts all i us → Then Meant n (rule all i) us (λ v h rest. Q v (max (k + i) h) rest))
+    → Then Meant n (given_at k rule) ts Q
+on_given_at {n} k rule ts {Q} none some = peek_after
+    (λ ts. ((us : List Token) → R p.Given ts [] 0 us → Then Meant n (rule [] 0) us Q)
+    × ((all : List expr.Expr) (i : ℕ) (us : List Token) → R p.Given ts all i us → Then Meant n (rule all i) us (λ v h rest. Q v (max (k + i) h) rest)))
+    ts (none, some)
+    (λ t us f. on_either (is m.CloseParen t)
+    (λ e. on_eat (f.0 us (r.given_none e)))
+    (λ e. read_expect m.CloseParen (λ all i u vs g e'. f.1 all i vs (r.given (all_of g) e'))))
+
 on_given : {n : Symbol} (rule : List expr.Expr → ℕ → Rule n) (ts : List Token) {Q : Value n → ℕ → List Token → Type 0}
     → ((us : List Token) → R p.Given ts [] 0 us → Then Meant n (rule [] 0) us Q)
     → ((all : List expr.Expr) (i : ℕ) (us : List Token) → R p.Given ts all i us → Then Meant n (rule all i) us (λ v h rest. Q v (max (1 + i) h) rest))
     → Then Meant n (given_arguments rule) ts Q
-on_given {n} rule ts {Q} none some = peek_after
-    (λ ts. ((us : List Token) → R p.Given ts [] 0 us → Then Meant n (rule [] 0) us Q)
-    × ((all : List expr.Expr) (i : ℕ) (us : List Token) → R p.Given ts all i us → Then Meant n (rule all i) us (λ v h rest. Q v (max (1 + i) h) rest)))
-    ts (none, some)
-    (λ t us k. on_either (is m.CloseParen t)
-    (λ e. on_eat (k.0 us (r.given_none e)))
-    (λ e. read_expect m.CloseParen (λ all i u vs g e'. k.1 all i vs (r.given (all_of g) e'))))
+on_given rule ts none some = on_given_at 1 rule ts none some
 
 fixed_at : (calls : Bool) (a : Operand) (height : ℕ) (t u : Token) (us : List Token) → tail_of t.kind ≡ tail.Fixed → (o : Option Units) → key_of u.kind ≡ o
     → Then Meant (s.Suffixes calls a height) (fixed o (λ key. as_read (s.Suffixes calls (a_member a.expr (k.Fixed key)) (height + 1)) (λ v. v))) (u ∷ us)
@@ -227,6 +284,89 @@ suffixes_at calls a height t us tail.Neither e = on_give (λ xs start. at {h = h
 
 suffixes : (calls : Bool) (a : Operand) (height : ℕ) → Row (s.Suffixes calls a height)
 suffixes calls a height ts = on_peek (Meant (s.Suffixes calls a height)) ts (λ t us. suffixes_at calls a height t us (tail_of t.kind) refl)
+
+-- ---- the operand of `delete`
+
+-- A longer member is deleted: what stood to the left is one deeper.
+longer : {xs rest : List Token} {a b v : Operand} {height : ℕ} (i : ℕ) {j : ℕ} (h : ℕ) → b.target ≡ true → h ≡ max (height + 1) (max (1 + i) j) → Removed xs b (max (height + 1) (i + 1)) v j rest → Removed xs a height v h rest
+longer {height = height} i {j} h y e x = record {
+  operand = x.operand;
+  tall = x.tall;
+  base = x.base;
+  key = x.key;
+  value = x.value;
+  written = x.written;
+  level = x.level;
+  reads = x.reads;
+  longer = elim x.longer [
+    | inl q ↦ (let l : j ≡ 0 = q.1 in let k : x.tall ≡ max (height + 1) (i + 1) = q.2 in inr (omega arith, omega arith))
+    | inr q ↦ (let k : x.tall ≡ j = q.0 in let l : 1 + max (height + 1) (i + 1) ≤ j = q.1 in inr (omega arith, omega arith))
+  ];
+}
+
+-- A call is no member, so a member follows.
+called_on : {xs rest : List Token} {a b v : Operand} {height : ℕ} (i : ℕ) {j : ℕ} (h : ℕ) → b.target ≡ false → h ≡ max (height + 2) (max (2 + i) j) → Removed xs b (max (height + 1) (i + 1)) v j rest → Removed xs a height v h rest
+called_on {height = height} i {j} h y e x = record {
+  operand = x.operand;
+  tall = x.tall;
+  base = x.base;
+  key = x.key;
+  value = x.value;
+  written = x.written;
+  level = x.level;
+  reads = x.reads;
+  longer = elim x.longer [
+    | inl q ↦ absurd (let z : false ≡ true = sym y ∙ ap (λ z. z.target) (sym q.0) ∙ x.written in cc)
+    | inr q ↦ (let k : x.tall ≡ j = q.0 in let l : 1 + max (height + 1) (i + 1) ≤ j = q.1 in inr (omega arith, omega arith))
+  ];
+}
+
+deleted_at : (a : Operand) (height : ℕ) (t : Token) (us : List Token) → goes_on true (tail_of t.kind) ≡ false → (target a && not t.after_newline ≡ false) ⊎ (step_of t.kind ≡ None)
+    → (b : Bool) → a.target ≡ b → (x : ExprLevel) → expr_level a.expr ≡ x
+    → Then Meant (s.Deleted a height) (deleted_level b x) (t ∷ us) (Meant (s.Deleted a height) (t ∷ us))
+deleted_at a height t us e n true y (ExprNode-F.Member base key) q = on_give (λ xs start. record {
+  operand = a;
+  tall = height;
+  base = base;
+  key = key;
+  value = refl;
+  written = y;
+  level = q;
+  reads = r.no_step (r.left start e) n;
+  longer = inl (refl, refl, refl);
+})
+deleted_at a height t us e n _ y _ q = on_refuse
+
+deleted_step_at : (a : Operand) (height : ℕ) (t : Token) (us : List Token) → goes_on true (tail_of t.kind) ≡ false → (o : Option Sign) → step_of t.kind ≡ o
+    → Then Meant (s.Deleted a height) (deleted_step a height o) (t ∷ us) (Meant (s.Deleted a height) (t ∷ us))
+deleted_step_at a height t us e (Some step) q = on_node on_refuse
+deleted_step_at a height t us e None q = deleted_at a height t us e (inr q) a.target refl (expr_level a.expr) refl
+
+deleted_fixed_at : (a : Operand) (height : ℕ) (t u : Token) (us : List Token) → tail_of t.kind ≡ tail.Fixed → (o : Option Units) → key_of u.kind ≡ o
+    → Then Meant (s.Deleted a height) (fixed o (λ key. as_read (s.Deleted (a_member a.expr (k.Fixed key)) (height + 1)) (λ v. v))) (u ∷ us)
+    (λ v h rest. Meant (s.Deleted a height) (t ∷ u ∷ us) v (max (height + 1) h) rest)
+deleted_fixed_at a height t u us e (Some units) q = on_eat (on_read (λ b j ws g. on_give (λ xs start.
+    longer 0 _ refl (omega arith) (tall_as (omega arith) (g xs (at {h = 1 + height} (omega arith) (r.fixed start e q)))))))
+  where
+    tall_as : {xs rest : List Token} {b v : Operand} {h i j : ℕ} → h ≡ i → Removed xs b h v j rest → Removed xs b i v j rest
+    tall_as {xs} {rest} {b} {v} {h} {i} {j} e x = subst (λ y. Removed xs b y v j rest) e x
+deleted_fixed_at a height t u us e None q = on_refuse
+
+deleted_tail : (a : Operand) (height : ℕ) (t : Token) (us : List Token) (o : Tail) → tail_of t.kind ≡ o
+    → Then Meant (s.Deleted a height) (deleted_by a height t o) (t ∷ us) (Meant (s.Deleted a height) (t ∷ us))
+deleted_tail a height t us tail.Computed e = on_node (read_expect m.CloseBracket (λ b i u vs g e'. on_read (λ c j ws g'. on_give (λ xs start.
+    longer i _ refl (omega arith) (g' xs (at {h = 1 + max height i} (omega arith) (r.computed start e g e')))))))
+deleted_tail a height t us tail.Fixed e = on_node (on_peek (λ us v h rest. Meant (s.Deleted a height) (t ∷ us) v (max (height + 1) h) rest) us
+    (λ u vs. deleted_fixed_at a height t u vs e (key_of u.kind) refl))
+deleted_tail a height t us tail.Call e = on_node (on_given_at 2 (λ all h. as_read (s.Deleted (plain (made.Call a.expr all)) (max (height + 1) (h + 1))) (λ v. v)) us
+    (λ vs g. on_read (λ c j ws g'. on_give (λ xs start. called_on 0 _ refl (omega arith) (g' xs (at {h = 1 + max height 0} (omega arith) (r.call start e g))))))
+    (λ all i vs g. on_read (λ c j ws g'. on_give (λ xs start. called_on i _ refl (omega arith) (g' xs (at {h = 1 + max height i} (omega arith) (r.call start e g)))))))
+deleted_tail a height t us tail.Neither e = on_either (target a && not t.after_newline)
+    (λ q. deleted_step_at a height t us (ap (goes_on true) e) (step_of t.kind) refl)
+    (λ q. deleted_at a height t us (ap (goes_on true) e) (inl q) a.target refl (expr_level a.expr) refl)
+
+deleted : (a : Operand) (height : ℕ) → Row (s.Deleted a height)
+deleted a height ts = on_peek (Meant (s.Deleted a height)) ts (λ t us. deleted_tail a height t us (tail_of t.kind) refl)
 
 new : Row s.New
 new ts = on_peek (Meant s.New) ts (λ t us. on_either (is_word w.New t)
@@ -342,6 +482,7 @@ rows s.Unary ts v h rest x t = holds (unary ts) v h rest x
 rows s.Postfix ts v h rest x t = holds (postfix ts) v h rest x
 rows s.Left ts v h rest x t = holds (left ts) v h rest x
 rows (s.Suffixes calls a i) ts v h rest x t = holds (suffixes calls a i ts) v h rest x
+rows (s.Deleted a i) ts v h rest x t = holds (deleted a i ts) v h rest x
 rows s.New ts v h rest x t = holds (new ts) v h rest x
 rows (s.Arguments so_far) ts v h rest x t = holds (arguments so_far ts) v h rest x
 rows (s.Items so_far) ts v h rest x t = holds (items so_far ts) v h rest x

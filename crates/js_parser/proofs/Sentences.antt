@@ -412,6 +412,7 @@ rows s.Unary ts v h rest x = tt
 rows s.Postfix ts v h rest x = tt
 rows s.Left ts v h rest x = tt
 rows (s.Suffixes calls a i) ts v h rest x = tt
+rows (s.Deleted a i) ts v h rest x = tt
 rows s.New ts v h rest x = tt
 rows (s.Arguments so_far) ts v h rest x = tt
 rows (s.Items so_far) ts v h rest x = tt

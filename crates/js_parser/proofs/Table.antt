@@ -13,7 +13,7 @@ use Rattle.js_lexer.specs.declared.Reserved.TheVariants as w
 use Rattle.std.proofs.Common.{◌∙◌}
 use Rattle.js_parser.proofs.Tokens.{mark_no_word, mark_kind, live_mark}
 use Rattle.js_parser.specs.Rules.{Symbol, Value, Outcome}
-use Rattle.js_parser.specs.Rules.Symbol.{Script, Elements, Declaration, Names, Statements, Statement, Block, Decls, Clauses, Expr, Commas, Assign, Conditional, Binary, More, Unary, Postfix, Left, Suffixes, New, Arguments, Items, Fields, Primary}
+use Rattle.js_parser.specs.Rules.Symbol.{Script, Elements, Declaration, Names, Statements, Statement, Block, Decls, Clauses, Expr, Commas, Assign, Conditional, Binary, More, Unary, Postfix, Left, Suffixes, Deleted, New, Arguments, Items, Fields, Primary}
 use Rattle.js_parser.specs.Rules.Rule.{give, refuse, peek, read}
 use Rattle.js_parser.specs.Grammar.{grammar, either, primary_by, unary_by}
 use Rattle.js_parser.specs.Goes.{Goes}
@@ -50,6 +50,7 @@ begun L Unary b = ends_peek
 begun L Postfix b = failed ends_peek
 begun L Left b = ends_peek
 begun L (Suffixes calls left height) b = ends_peek
+begun L (Deleted left height) b = ends_peek
 begun L New b = ends_peek
 begun L (Arguments so_far) b = failed (assign L (b + 0) false)
 begun L (Items so_far) b = ends_peek

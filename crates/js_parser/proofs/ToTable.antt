@@ -1,15 +1,16 @@
 -- What the productions read, the table reads.
-use Rattle.std.proofs.Common.{◌≡◌, ℕ, zero, suc, ◌+◌, max, ◌&&◌, not, Bool, true, false, Option, Some, None, List, [], ◌∷◌, ◌++◌, refl, ap, sym, ◌∙◌, subst, arith, ◌⊎◌, inl, inr, append_assoc}
+use Rattle.std.proofs.Common.{◌≡◌, ℕ, zero, suc, ◌+◌, max, ◌&&◌, not, Bool, true, false, Option, Some, None, List, [], ◌∷◌, ◌++◌, refl, ap, sym, ◌∙◌, subst, arith, ◌⊎◌, inl, inr, ◌≤◌, append_assoc}
 use Rattle.js_lexer.specs.declared.Mark.{Mark}
 use Rattle.js_lexer.specs.declared.Mark.TheVariants as m
 use Rattle.js_lexer.specs.declared.Reserved.TheVariants as w
 use Rattle.js_tree.specs.declared.BinaryOperator.{BinaryOperator}
 use Rattle.js_tree.specs.declared.Expr as expr
 use Rattle.js_parser.specs.Exprs as made
+use Rattle.js_tree.specs.declared.Key.{Key}
 use Rattle.js_tree.specs.declared.Key.TheVariants as k
 use Rattle.js_lexer.specs.declared.Token.{Token}
 use Rattle.js_parser.specs.declared.classes.Tail.{Tail}
-use Rattle.js_parser.specs.Words.{Units, is, is_word, infix_of, assign_of, prefix_of, step_of, tail_of, head_of, name_of}
+use Rattle.js_parser.specs.Words.{Units, is, is_word, infix_of, assign_of, prefix_of, prefixed, some_prefix, step_of, tail_of, head_of, name_of}
 use Rattle.js_parser.specs.declared.classes.Prefix.TheVariants as prefix
 use Rattle.js_parser.specs.declared.classes.Head.TheVariants as head
 use Rattle.js_parser.specs.declared.classes.Tail.TheVariants as tail
@@ -19,15 +20,24 @@ use Rattle.js_parser.specs.Rules.{Symbol as s}
 use Rattle.js_parser.specs.Rules.Rule.{give, peek, eat, read}
 use Rattle.js_tree.specs.Trees.{field_of}
 use Rattle.js_tree.specs.Trees.{expr_level}
-use Rattle.js_parser.specs.Grammar.{either, expect, more_by, assign_by, target, deleted_level, unary_by, postfix_by, with_suffixes, given_arguments, fixed, as_read, a_member, suffixes_by, new_after, plain, field_by, name_by, parameters, primary_by, go_on, function}
+use Rattle.js_tree.specs.declared.ExprNode.TheOpen.{ExprNode-F}
+use Rattle.js_lexer.specs.declared.Kind.{Kind}
+use Rattle.js_parser.specs.Grammar.{either, expect, more_by, assign_by, target, deleted_level, deleted_step, deleted_end, deleted_by, delete_operand, unary_by, postfix_by, with_suffixes, given_at, given_arguments, fixed, as_read, a_member, suffixes_by, new_after, plain, field_by, name_by, parameters, primary_by, go_on, function}
 use Rattle.js_parser.specs.Paths.{Path, Table}
 use Rattle.js_parser.specs.Paths.Path.{gives, peeks, eats, nodes, reads}
 use Rattle.js_parser.specs.Productions.{Part, Of, Reads, goes_on}
 use Rattle.js_parser.specs.Productions.{Part as p}
 use Rattle.js_parser.specs.Productions.{Reads as r}
 use Rattle.js_parser.proofs.Paths.{built}
-use Rattle.js_parser.proofs.FromTable.{Body}
+use Rattle.js_parser.proofs.FromTable.{Body, primary_no_member, new_no_member}
 use Rattle.js_parser.proofs.Tokens.{live_prefix, live_head, live_tail, live_step, live_assign, live_key, live_literal_key, live_name, live_infix, live_mark, live_word, head_no_prefix, new_no_prefix, head_no_new, assign_alone, no_infix, name_no_mark, Opening, opening_prefix, opening_head, opening_new, key_no_brace}
+
+-- What is read of these tokens is what stands first in the operand of `delete`. It is one deeper, but a member as written that is all of it is not.
+pub record Erased (ts : List Token) (v : Operand) (h : ℕ) (us : List Token) : Type 0 where
+  pub deeper : ℕ
+  pub most : deeper ≤ 1
+  pub written : (base : expr.Expr) (key : Key) → v.target ≡ true → expr_level v.expr ≡ ExprNode-F.Member base key → deeper ≡ 0
+  pub path : (x : Operand) (i : ℕ) (rest : List Token) → Table (s.Deleted v h) us x i rest → Path Table s.Unary (peek delete_operand) ts x (max (deeper + h) i) rest
 
 -- what a part is in the table
 abbrev pub Into : (n : Part) → List Token → Of n → ℕ → List Token → Type 0
@@ -40,13 +50,13 @@ Into (p.Chain no_in (suc level)) ts v h us = (x : Operand) (i : ℕ) (rest : Lis
 Into (p.Binary no_in level) ts v h rest = Table (s.Binary no_in level) ts v h rest
 Into p.Unary ts v h rest = Table s.Unary ts v h rest
 Into p.Postfix ts v h rest = Table s.Postfix ts v h rest
-Into (p.Stem calls) ts v h us = (n : Symbol) (j : ℕ) (f : Operand → Rule n) (x : Value n) (i : ℕ) (rest : List Token)
-    → Path Table n (read j (s.Suffixes calls v h) (λ y _. f y)) us x i rest → Path Table n (peek (with_suffixes j calls f)) ts x (max (j + h) i) rest
+Into (p.Stem calls) ts v h us = ((n : Symbol) (j : ℕ) (f : Operand → Rule n) (x : Value n) (i : ℕ) (rest : List Token)
+    → Path Table n (read j (s.Suffixes calls v h) (λ y _. f y)) us x i rest → Path Table n (peek (with_suffixes j calls f)) ts x (max (j + h) i) rest) × Erased ts v h us
 Into (p.Whole calls) ts v h us = (n : Symbol) (j : ℕ) (f : Operand → Rule n) (x : Value n) (i : ℕ) (rest : List Token)
     → Path Table n (f v) us x i rest → Path Table n (peek (with_suffixes j calls f)) ts x (max (j + h) i) rest
 Into p.New ts v h rest = Table s.New ts v h rest
-Into p.Given ts all h us = (n : Symbol) (rule : List expr.Expr → ℕ → Rule n) (x : Value n) (i : ℕ) (rest : List Token)
-    → Path Table n (rule all h) us x i rest → (g : ℕ) × (max 1 g ≡ max (1 + h) i) × Path Table n (given_arguments rule) ts x g rest
+Into p.Given ts all h us = (n : Symbol) (k : ℕ) (rule : List expr.Expr → ℕ → Rule n) (x : Value n) (i : ℕ) (rest : List Token)
+    → Path Table n (rule all h) us x i rest → (g : ℕ) × (max k g ≡ max (k + h) i) × Path Table n (given_at k rule) ts x g rest
 Into p.Arguments ts all h rest = (so_far : List expr.Expr) → Table (s.Arguments so_far) ts (so_far ++ all) h rest
 Into p.Items ts all h rest = (so_far : List expr.Expr) → Table (s.Items so_far) ts (so_far ++ all) h rest
 Into p.Fields ts all h rest = (so_far : _) → Table (s.Fields so_far) ts (so_far ++ all) h rest
@@ -226,10 +236,74 @@ stem_new : {n : Symbol} {j : ℕ} {calls : Bool} {f : Operand → Rule n} {ts us
 stem_new {n} {j} {calls} {f} {ts} {us} {rest} {a} {h} {i} {x} b g q = subst (λ y. Path Table n (peek (with_suffixes j calls f)) y x (max (j + h) i) rest) (sym b.2)
     (peeks (first _ _ _ b.4 (reads (subst (λ y. Table s.New y a h us) b.2 g) q)))
 
-given_some : {n : Symbol} (rule : List expr.Expr → ℕ → Rule n) {ts us rest : List Token} {t : Token} {all : List expr.Expr} {h i : ℕ} {x : Value n} → Opens ts → Table (s.Arguments []) ts all h (t ∷ us)
-    → is m.CloseParen t ≡ true → Path Table n (rule all h) us x i rest → Path Table n (given_arguments rule) ts x (max (1 + h) i) rest
-given_some {n} rule {ts} {us} {rest} {t} {all} {h} {i} {x} o g q p = subst (λ y. Path Table n (given_arguments rule) y x (max (1 + h) i) rest) (sym o.2)
+given_some : {n : Symbol} (k : ℕ) (rule : List expr.Expr → ℕ → Rule n) {ts us rest : List Token} {t : Token} {all : List expr.Expr} {h i : ℕ} {x : Value n} → Opens ts → Table (s.Arguments []) ts all h (t ∷ us)
+    → is m.CloseParen t ≡ true → Path Table n (rule all h) us x i rest → Path Table n (given_at k rule) ts x (max (k + h) i) rest
+given_some {n} k rule {ts} {us} {rest} {t} {all} {h} {i} {x} o g q p = subst (λ y. Path Table n (given_at k rule) y x (max (k + h) i) rest) (sym o.2)
     (peeks (second _ _ _ o.3.0 (reads (subst (λ y. Table (s.Arguments []) y all h (t ∷ us)) o.2 g) (expects _ q p))))
+
+-- ---- the operand of `delete`
+
+not_prefixed : (k : Kind) → prefix_of k ≡ prefix.Neither → prefixed k ≡ false
+unfolding prefixed
+not_prefixed k e = ap some_prefix e
+
+erased_primary : {ts us : List Token} {a : Operand} {h : ℕ} → Begun false ts → Table s.Primary ts a h us → ((base : expr.Expr) (key : Key) → a.target ≡ true → expr_level a.expr ≡ ExprNode-F.Member base key → ⊥) → Erased ts a h us
+erased_primary {ts} {us} {a} {h} b g never = record {
+  deeper = 1;
+  most = omega arith;
+  written = λ base key y z. absurd (never base key y z);
+  path = λ x i rest t. subst (λ y. Path Table s.Unary (peek delete_operand) y x (max (1 + h) i) rest) (sym b.2) (at {h = max (1 + h) (max (0 + i) 0)} (omega arith)
+      (peeks (second _ _ _ (not_prefixed b.0.kind b.3) (second _ _ _ b.4 (reads (subst (λ y. Table s.Primary y a h us) b.2 g) (reads t gives))))));
+}
+
+erased_new : {ts us : List Token} {a : Operand} {h : ℕ} → Begun true ts → Table s.New ts a h us → ((base : expr.Expr) (key : Key) → a.target ≡ true → expr_level a.expr ≡ ExprNode-F.Member base key → ⊥) → Erased ts a h us
+erased_new {ts} {us} {a} {h} b g never = record {
+  deeper = 1;
+  most = omega arith;
+  written = λ base key y z. absurd (never base key y z);
+  path = λ x i rest t. subst (λ y. Path Table s.Unary (peek delete_operand) y x (max (1 + h) i) rest) (sym b.2) (at {h = max (1 + h) (max (0 + i) 0)} (omega arith)
+      (peeks (second _ _ _ (not_prefixed b.0.kind b.3) (first _ _ _ b.4 (reads (subst (λ y. Table s.New y a h us) b.2 g) (reads t gives))))));
+}
+
+-- one more step, after which a member stands, or a call
+erased_member : {ts us ws : List Token} {a b : Operand} {h i : ℕ} (k : ℕ) → (start : Erased ts a h us) → ((j : ℕ) → max (start.deeper + h) (max k j) ≡ max (0 + i) j)
+    → ((y : Operand) (l : ℕ) (vs : List Token) → Table (s.Deleted b i) ws y l vs → Table (s.Deleted a h) us y (max k l) vs) → Erased ts b i ws
+erased_member {i = i} k x e step = record {
+  deeper = 0;
+  most = omega arith;
+  written = λ base key y z. refl;
+  path = λ y l vs t. at (e l) (x.path y (max k l) vs (step y l vs t));
+}
+
+erased_call : {ts us ws : List Token} {a b : Operand} {h i : ℕ} (k : ℕ) → (start : Erased ts a h us) → b.target ≡ false → ((j : ℕ) → max (start.deeper + h) (max k j) ≡ max (1 + i) j)
+    → ((y : Operand) (l : ℕ) (vs : List Token) → Table (s.Deleted b i) ws y l vs → Table (s.Deleted a h) us y (max k l) vs) → Erased ts b i ws
+erased_call {i = i} k x n e step = record {
+  deeper = 1;
+  most = omega arith;
+  written = λ base key y z. absurd (let q : false ≡ true = sym n ∙ y in cc);
+  path = λ y l vs t. at (e l) (x.path y (max k l) vs (step y l vs t));
+}
+
+deleted_height : {ts rest : List Token} {v x : Operand} {h i j : ℕ} → h ≡ i → Table (s.Deleted v h) ts x j rest → Table (s.Deleted v i) ts x j rest
+deleted_height {ts} {rest} {v} {x} {j = j} e g = subst (λ y. Table (s.Deleted v y) ts x j rest) e g
+
+-- a member as written that is all of the operand
+deleted_stops : {us : List Token} {u : Token} {a : Operand} {h : ℕ} {base : expr.Expr} {key : Key} (o : Tail) → goes_on true o ≡ false → (target a && not u.after_newline ≡ false) ⊎ (step_of u.kind ≡ None)
+    → a.target ≡ true → expr_level a.expr ≡ ExprNode-F.Member base key → Path Table (s.Deleted a h) (deleted_by a h u o) (u ∷ us) (plain (made.Delete base key)) 0 (u ∷ us)
+deleted_stops tail.Computed e n y q = absurd (let z : true ≡ false = e in cc)
+deleted_stops tail.Fixed e n y q = absurd (let z : true ≡ false = e in cc)
+deleted_stops tail.Call e n y q = absurd (let z : true ≡ false = e in cc)
+deleted_stops {us} {u} {a} {h} {base} {key} tail.Neither e n y q = elim n [
+  | inl f ↦ second _ _ _ f whole
+  | inr f ↦ go (target a && not u.after_newline) f
+]
+  where
+    whole : Path Table (s.Deleted a h) (deleted_level a.target (expr_level a.expr)) (u ∷ us) (plain (made.Delete base key)) 0 (u ∷ us)
+    whole = by (λ x. deleted_level x (expr_level a.expr)) y (by (λ x. deleted_level true x) q gives)
+
+    go : (b : Bool) → step_of u.kind ≡ None → Path Table (s.Deleted a h) (either b (deleted_step a h (step_of u.kind)) (deleted_level a.target (expr_level a.expr))) (u ∷ us) (plain (made.Delete base key)) 0 (u ∷ us)
+    go true f = by (deleted_step a h) f whole
+    go false f = whole
 
 item_first : (so_far : List expr.Expr) {ts us rest : List Token} {a : Operand} {h i : ℕ} {x : List expr.Expr} → Opens ts → Table (s.Assign false) ts a h us
     → Path Table (s.Items so_far) (go_on (peek (λ u. either (is m.CloseBracket u) (give (so_far ++ a.expr ∷ [])) (as_read (s.Items (so_far ++ a.expr ∷ [])) (λ all. all)))) (give (so_far ++ a.expr ∷ []))) us x i rest
@@ -292,6 +366,9 @@ named_rule units = function (λ names body. give (plain (made.Function (Some uni
 abbrev fixed_rule : (calls : Bool) (a : Operand) (h : ℕ) → Units → Rule (s.Suffixes calls a h)
 fixed_rule calls a h key = as_read (s.Suffixes calls (a_member a.expr (k.Fixed key)) (h + 1)) (λ v. v)
 
+abbrev deleted_fixed_rule : (a : Operand) (h : ℕ) → Units → Rule (s.Deleted a h)
+deleted_fixed_rule a h key = as_read (s.Deleted (a_member a.expr (k.Fixed key)) (h + 1)) (λ v. v)
+
 pub into : {n : Part} {ts rest : List Token} {v : Of n} {h : ℕ} → Reads Body n ts v h rest → Into n ts v h rest
 into (r.first {h = h} g) = λ x i rest t. table_at {h = max (0 + h) (max (0 + i) 0)} (omega arith) (built (reads (into g) (reads t gives)))
 into (r.comma {t = c} {h = h} {i = j} g e g') = λ x i rest t. table_at {h = max h (max (h + 1) (max (1 + j) (max (0 + i) 0)))} (omega arith)
@@ -310,7 +387,15 @@ into (r.operator {no_in = no_in} {level = level} {t = c} {a = a} {h = h} {i = j}
     (into g x (max (h + 1) (max (1 + j) (max (0 + i) 0))) rest (built (peeks (by (more_by no_in (suc level) a h) e (nodes (live_infix no_in (suc level) c op e) (reads (into g') (reads (more_height {h = 1 + max h j} (omega arith) t) gives)))))))
 into (r.binary {no_in = no_in} {level = level} {us = us} {t = t} {a = a} {h = h} g e) = table_at {h = max h 0} (omega arith) (into g a 0 (t ∷ us) (built (peeks (by (more_by no_in (suc level) a h) e gives))))
 into (r.unary {h = h} g) = table_at {h = max (0 + h) 0} (omega arith) (built (reads (into g) gives))
-into (r.delete {t = t} {a = a} {h = h} e g y q) = table_at {h = max 1 (max (0 + h) 0)} (omega arith) (built (peeks (by unary_by e (nodes (live_prefix t _ e (λ z. cc)) (reads (into g) (by (λ x. deleted_level x (expr_level a.expr)) y (by (λ x. deleted_level true x) q gives)))))))
+into (r.delete {t = t} {base = base} {key = key} e (r.postfix (r.no_step (r.left {us = us} {t = u} {a = a} {h = h} g e') n)) y q) = let x = (into g).1 in
+    table_at {h = max 1 (max (x.deeper + h) 0)} (let z : x.deeper ≡ 0 = x.written base key y q in omega arith)
+    (built (peeks (by unary_by e (nodes (live_prefix t _ e (λ z. cc)) (x.path (plain (made.Delete base key)) 0 (u ∷ us) (built (peeks (deleted_stops (tail_of u.kind) e' n y q))))))))
+into (r.delete e (r.postfix (r.step g e1 e2 e3)) y q) = absurd (let z : false ≡ true = y in cc)
+into (r.delete e (r.delete e1 g e2 e3) y q) = absurd (let z : false ≡ true = y in cc)
+into (r.delete e (r.void e1 g) y q) = absurd (let z : false ≡ true = y in cc)
+into (r.delete e (r.typeof e1 g) y q) = absurd (let z : false ≡ true = y in cc)
+into (r.delete e (r.signed e1 g) y q) = absurd (let z : false ≡ true = y in cc)
+into (r.delete e (r.update e1 g e2) y q) = absurd (let z : false ≡ true = y in cc)
 into (r.void {t = t} {h = h} e g) = table_at {h = max 1 (max (1 + h) 0)} (omega arith) (built (peeks (by unary_by e (nodes (live_prefix t _ e (λ z. cc)) (reads (into g) gives)))))
 into (r.typeof {t = t} {h = h} e g) = table_at {h = max 1 (max (1 + h) 0)} (omega arith) (built (peeks (by unary_by e (nodes (live_prefix t _ e (λ z. cc)) (reads (into g) gives)))))
 into (r.signed {t = t} {h = h} e g) = table_at {h = max 1 (max (1 + h) 0)} (omega arith) (built (peeks (by unary_by e (nodes (live_prefix t _ e (λ z. cc)) (reads (into g) gives)))))
@@ -322,28 +407,41 @@ into (r.step {t = t} {a = a} {h = h} {step = step} g e e' e'') = table_at {h = m
     both : (a b : Bool) → a ≡ true → b ≡ false → a && not b ≡ true
     both a b e f = ap (λ x. x && not b) e ∙ ap not f
 into (r.no_step g e) = as_postfix (as_left (into g)) e
-into (r.primary {ts = ts} {rest = us} {a = a} {h = h} g) = λ n j f x i rest q. stem_primary (begun_primary g) (into g) q
-into (r.new {ts = ts} {rest = us} {a = a} {h = h} g) = λ n j f x i rest q. stem_new (begun_new g) (into g) q
-into (r.computed {calls = calls} {t = t} {a = a} {h = h} {i = k} g e g' e') = λ n j f x i rest q. at {h = max (j + h) (max (j + (1 + max h k)) i)} (omega arith)
-    (into g n j f x (max (j + (1 + max h k)) i) rest (grow h (1 + max h k) (λ y l vs z. table_at {h = max (h + 1) (max (1 + k) (max (0 + l) 0))} (omega arith)
-    (built (peeks (by (suffixes_by calls a h) e (nodes (live_tail t _ e (λ z. cc)) (reads (into g') (expects _ e' (reads (suffixes_height (let w : 1 + max h k ≡ max (h + 1) (k + 1) = omega arith in w) z) gives)))))))) q))
-into (r.fixed {calls = calls} {t = t} {u = u} {a = a} {h = h} {units = units} g e e') = λ n j f x i rest q. at {h = max (j + h) (max (j + (1 + h)) i)} (omega arith)
-    (into g n j f x (max (j + (1 + h)) i) rest (grow h (1 + h) (λ y l vs z. table_at {h = max (h + 1) (max (0 + l) 0)} (omega arith)
-    (built (peeks (by (suffixes_by calls a h) e (nodes (live_tail t _ e (λ z. cc)) (peeks (by (λ o. fixed o (fixed_rule calls a h)) e' (eats (live_key u units e') (reads (suffixes_height (let w : 1 + h ≡ h + 1 = omega arith in w) z) gives))))))))) q))
-into (r.call {t = t} {a = a} {all = all} {h = h} {i = k} g e g') = λ n j f x i rest q. at {h = max (j + h) (max (j + (1 + max h k)) i)} (omega arith)
-    (into g n j f x (max (j + (1 + max h k)) i) rest (grow h (1 + max h k) (λ y l vs z.
-    let c = into g' (s.Suffixes true a h) (λ all i. as_read (s.Suffixes true (plain (made.Call a.expr all)) (max (h + 1) (i + 1))) (λ v. v)) y (max (0 + l) 0) vs (reads (suffixes_height (let w : 1 + max h k ≡ max (h + 1) (k + 1) = omega arith in w) z) gives) in
-    table_at {h = max (h + 1) c.0} (let w : max 1 c.0 ≡ max (1 + k) (max (0 + l) 0) = c.1 in omega arith) (built (peeks (by (suffixes_by true a h) e (nodes (live_tail t _ e (λ z. cc)) c.2))))) q))
+into (r.primary {ts = ts} {rest = us} {a = a} {h = h} g) = (λ n j f x i rest q. stem_primary (begun_primary g) (into g) q, erased_primary (begun_primary g) (into g) (primary_no_member g))
+into (r.new {ts = ts} {rest = us} {a = a} {h = h} g) = (λ n j f x i rest q. stem_new (begun_new g) (into g) q, erased_new (begun_new g) (into g) (new_no_member g))
+into (r.computed {calls = calls} {t = t} {a = a} {h = h} {i = k} g e g' e') = (
+  λ n j f x i rest q. at {h = max (j + h) (max (j + (1 + max h k)) i)} (omega arith)
+      ((into g).0 n j f x (max (j + (1 + max h k)) i) rest (grow h (1 + max h k) (λ y l vs z. table_at {h = max (h + 1) (max (1 + k) (max (0 + l) 0))} (omega arith)
+      (built (peeks (by (suffixes_by calls a h) e (nodes (live_tail t _ e (λ z. cc)) (reads (into g') (expects _ e' (reads (suffixes_height (let w : 1 + max h k ≡ max (h + 1) (k + 1) = omega arith in w) z) gives)))))))) q)),
+  (let start = (into g).1 in let l : start.deeper ≤ 1 = start.most in erased_member {i = 1 + max h k} (max (h + 1) (1 + k)) start (λ j. omega arith) (λ y l vs z. table_at {h = max (h + 1) (max (1 + k) (max (0 + l) 0))} (omega arith)
+      (built (peeks (by (deleted_by a h t) e (nodes (live_tail t _ e (λ z. cc)) (reads (into g') (expects _ e' (reads (deleted_height (let w : 1 + max h k ≡ max (h + 1) (k + 1) = omega arith in w) z) gives))))))))),
+)
+into (r.fixed {calls = calls} {t = t} {u = u} {a = a} {h = h} {units = units} g e e') = (
+  λ n j f x i rest q. at {h = max (j + h) (max (j + (1 + h)) i)} (omega arith)
+      ((into g).0 n j f x (max (j + (1 + h)) i) rest (grow h (1 + h) (λ y l vs z. table_at {h = max (h + 1) (max (0 + l) 0)} (omega arith)
+      (built (peeks (by (suffixes_by calls a h) e (nodes (live_tail t _ e (λ z. cc)) (peeks (by (λ o. fixed o (fixed_rule calls a h)) e' (eats (live_key u units e') (reads (suffixes_height (let w : 1 + h ≡ h + 1 = omega arith in w) z) gives))))))))) q)),
+  (let start = (into g).1 in let l : start.deeper ≤ 1 = start.most in erased_member {i = 1 + h} (h + 1) start (λ j. omega arith) (λ y l vs z. table_at {h = max (h + 1) (max (0 + l) 0)} (omega arith)
+      (built (peeks (by (deleted_by a h t) e (nodes (live_tail t _ e (λ z. cc)) (peeks (by (λ o. fixed o (deleted_fixed_rule a h)) e' (eats (live_key u units e') (reads (deleted_height (let w : 1 + h ≡ h + 1 = omega arith in w) z) gives)))))))))),
+)
+into (r.call {t = t} {a = a} {all = all} {h = h} {i = k} g e g') = (
+  λ n j f x i rest q. at {h = max (j + h) (max (j + (1 + max h k)) i)} (omega arith)
+      ((into g).0 n j f x (max (j + (1 + max h k)) i) rest (grow h (1 + max h k) (λ y l vs z.
+      let c = into g' (s.Suffixes true a h) 1 (λ all i. as_read (s.Suffixes true (plain (made.Call a.expr all)) (max (h + 1) (i + 1))) (λ v. v)) y (max (0 + l) 0) vs (reads (suffixes_height (let w : 1 + max h k ≡ max (h + 1) (k + 1) = omega arith in w) z) gives) in
+      table_at {h = max (h + 1) c.0} (let w : max 1 c.0 ≡ max (1 + k) (max (0 + l) 0) = c.1 in omega arith) (built (peeks (by (suffixes_by true a h) e (nodes (live_tail t _ e (λ z. cc)) c.2))))) q)),
+  (let start = (into g).1 in let l : start.deeper ≤ 1 = start.most in erased_call {i = 1 + max h k} (max (h + 2) (2 + k)) start refl (λ j. omega arith) (λ y l vs z.
+      let c = into g' (s.Deleted a h) 2 (λ all i. as_read (s.Deleted (plain (made.Call a.expr all)) (max (h + 1) (i + 1))) (λ v. v)) y (max (0 + l) 0) vs (reads (deleted_height (let w : 1 + max h k ≡ max (h + 1) (k + 1) = omega arith in w) z) gives) in
+      table_at {h = max (h + 2) c.0} (let w : max 2 c.0 ≡ max (2 + k) (max (0 + l) 0) = c.1 in omega arith) (built (peeks (by (deleted_by a h t) e (nodes (live_tail t _ e (λ z. cc)) c.2)))))),
+)
 into (r.left {calls = calls} {us = us} {t = t} {a = a} {h = h} g e) = λ n j f x i rest q. at {h = max (j + h) (max (j + 0) i)} (omega arith)
-    (into g n j f x (max (j + 0) i) rest (reads (built (peeks (stops calls t us a h (tail_of t.kind) e))) q))
+    ((into g).0 n j f x (max (j + 0) i) rest (reads (built (peeks (stops calls t us a h (tail_of t.kind) e))) q))
 into (r.new_with {t = t} {u = u} {a = a} {all = all} {h = h} {i = k} q g e g') =
-    let c = into g' s.New (λ all _. give (plain (made.New a.expr all))) (plain (made.New a.expr all)) 0 _ gives in
+    let c = into g' s.New 1 (λ all _. give (plain (made.New a.expr all))) (plain (made.New a.expr all)) 0 _ gives in
     table_at {h = max 1 (max (1 + h) c.0)} (let w : max 1 c.0 ≡ max (1 + k) 0 = c.1 in omega arith)
     (built (peeks (first _ _ _ q (nodes (live_word w.New t q) (into g s.New 1 (λ callee. peek (new_after callee.expr)) _ c.0 _ (peeks (first _ _ _ e (eats (live_mark m.OpenParen u e) c.2))))))))
 into (r.new_alone {us = us} {t = t} {u = u} {a = a} {h = h} q g e) = table_at {h = max 1 (max (1 + h) 0)} (omega arith)
     (built (peeks (first _ _ _ q (nodes (live_word w.New t q) (into g s.New 1 (λ callee. peek (new_after callee.expr)) _ 0 _ (peeks (second _ _ _ e gives)))))))
-into (r.given_none {t = t} q) = λ n rule x i rest p. (i, omega arith, peeks (first _ _ _ q (eats (live_mark m.CloseParen t q) p)))
-into (r.given {h = h} g q) = λ n rule x i rest p. (max (1 + h) i, omega arith, given_some rule (opens_arguments g) (into g []) q p)
+into (r.given_none {t = t} q) = λ n k rule x i rest p. (i, omega arith, peeks (first _ _ _ q (eats (live_mark m.CloseParen t q) p)))
+into (r.given {h = h} g q) = λ n k rule x i rest p. (max (k + h) i, omega arith, given_some k rule (opens_arguments g) (into g []) q p)
 into (r.last_argument {h = h} g e) = λ so_far. table_at {h = max (0 + h) 0} (omega arith) (built (reads (into g) (peeks (second _ _ _ e gives))))
 into (r.argument {t = t} {a = a} {all = all} {h = h} {i = i} g e g') = λ so_far. value_at (append_assoc so_far (a.expr ∷ []) all) (table_at {h = max (0 + h) (max (0 + i) 0)} (omega arith)
     (built (reads (into g) (peeks (first _ _ _ e (eats (live_mark m.Comma t e) (reads (into g' (so_far ++ a.expr ∷ [])) gives)))))))
@@ -369,7 +467,7 @@ into (r.array_empty {t = t} {u = u} q e) = built (peeks (by primary_by q (nodes 
 into (r.array {t = t} {h = h} q g e) = table_at {h = max 1 (max (1 + h) 0)} (omega arith) (built (peeks (by primary_by q (nodes (live_head t _ q (λ z. cc)) (array_first (opens_items g) (into g []) e)))))
 into (r.object_empty {t = t} {u = u} q e) = built (peeks (by primary_by q (nodes (live_head t _ q (λ z. cc)) (peeks (first _ _ _ e (eats (live_mark m.CloseBrace u e) gives))))))
 into (r.object {t = t} {h = h} q g e) = table_at {h = max 1 (max (1 + h) 0)} (omega arith) (built (peeks (by primary_by q (nodes (live_head t _ q (λ z. cc)) (object_first (opens_fields g) (into g []) e)))))
-into (r.print {t = t} {all = all} {h = h} q e g) = let c = into g s.Primary (λ all _. give (plain (made.Print all))) (plain (made.Print all)) 0 _ gives in
+into (r.print {t = t} {all = all} {h = h} q e g) = let c = into g s.Primary 1 (λ all _. give (plain (made.Print all))) (plain (made.Print all)) 0 _ gives in
     table_at {h = max 1 c.0} (let w : max 1 c.0 ≡ max (1 + h) 0 = c.1 in omega arith) (built (peeks (by primary_by q (nodes (live_head t _ q (λ z. cc)) (expects _ e c.2)))))
 into (r.with_one {t = t} {h = h} q e g e') = table_at {h = max 1 (max (1 + h) 0)} (omega arith) (built (peeks (by primary_by q (nodes (live_head t _ q (λ z. cc)) (expects _ e (reads (into g) (expects _ e' gives)))))))
 into (r.with_none {t = t} q e e') = built (peeks (by primary_by q (nodes (live_head t _ q (λ z. cc)) (expects _ e (expects _ e' gives)))))

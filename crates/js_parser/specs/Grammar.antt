@@ -32,7 +32,7 @@ use Rattle.js_parser.specs.declared.classes.Head.{Head}
 use Rattle.js_parser.specs.declared.classes.Prefix.{Prefix}
 use Rattle.js_parser.specs.declared.classes.Tail.{Tail}
 use Rattle.js_parser.specs.declared.classes.Infix.{Infix}
-use Rattle.js_parser.specs.Words.{Units, is, is_word, is_end, closes, stops, labels, name_of, key_of, literal_key_of, start_of, head_of, prefix_of, tail_of, step_of, infix_at, assign_of}
+use Rattle.js_parser.specs.Words.{Units, is, is_word, is_end, closes, stops, labels, name_of, key_of, literal_key_of, start_of, head_of, prefix_of, prefixed, tail_of, step_of, infix_at, assign_of}
 use Rattle.js_parser.specs.declared.classes.Name.TheVariants as ident
 use Rattle.js_parser.specs.declared.classes.Start.TheVariants as start
 use Rattle.js_parser.specs.declared.classes.Head.TheVariants as head
@@ -43,7 +43,7 @@ use Rattle.js_tree.specs.Trees.{unbound, ExprLevel, expr_level, field_of, variab
 use Rattle.js_tree.specs.declared.ExprNode.TheOpen.{ExprNode-F}
 use Rattle.js_parser.specs.declared.classes.Operand.{Operand}
 use Rattle.js_parser.specs.Rules.{Context, Symbol, Value, Rule}
-use Rattle.js_parser.specs.Rules.Symbol.{Script, Elements, Declaration, Names, Statements, Statement, Block, Decls, Clauses, Expr, Commas, Assign, Conditional, Binary, More, Unary, Postfix, Left, Suffixes, New, Arguments, Items, Fields, Primary}
+use Rattle.js_parser.specs.Rules.Symbol.{Script, Elements, Declaration, Names, Statements, Statement, Block, Decls, Clauses, Expr, Commas, Assign, Conditional, Binary, More, Unary, Postfix, Left, Suffixes, Deleted, New, Arguments, Items, Fields, Primary}
 use Rattle.js_parser.specs.Rules.Rule.{give, refuse, peek, eat, node, stand, read}
 
 -- ---- values
@@ -255,10 +255,13 @@ abbrev pub arguments : (so_far : List expr.Expr) → Rule (Arguments so_far)
 arguments so_far = read 0 (Assign false) (λ v _.
     go_on (as_read (Arguments (so_far ++ v.expr ∷ [])) (λ all. all)) (give (so_far ++ v.expr ∷ [])))
 
--- `(` arguments `)`, the arguments so much deeper
+-- arguments and `)`, the arguments so much deeper
+abbrev pub given_at : {n : Symbol} → ℕ → (List expr.Expr → ℕ → Rule n) → Rule n
+given_at k rule = peek (λ t. either (is m.CloseParen t) (eat (rule [] 0))
+    (read k (Arguments []) (λ all height. expect m.CloseParen (rule all height))))
+
 abbrev pub given_arguments : {n : Symbol} → (List expr.Expr → ℕ → Rule n) → Rule n
-given_arguments rule = peek (λ t. either (is m.CloseParen t) (eat (rule [] 0))
-    (read 1 (Arguments []) (λ all height. expect m.CloseParen (rule all height))))
+given_arguments rule = given_at 1 rule
 
 -- An element is due: no comma stands here.
 abbrev pub items : (so_far : List expr.Expr) → Rule (Items so_far)
@@ -310,17 +313,16 @@ more_by no_in level left height (Some op) = node (height + 1) (read 1 (Binary no
     as_read (More no_in level (plain (joined op left.expr right.expr)) (max (height + 1) (h + 1))) (λ v. v)))
 more_by no_in level left height None = give left
 
--- The member that is deleted is one node with `delete`.
-abbrev pub deleted_level : (target : Bool) → ExprLevel → Rule Unary
-deleted_level true (ExprNode-F.Member base key) = give (plain (e.Delete base key))
-deleted_level _ _ = refuse (Some form.Delete)
-
-abbrev pub deleted : Operand → Rule Unary
-deleted v = deleted_level v.target (expr_level v.expr)
+-- the operand of `delete`, and what stands after it
+abbrev pub delete_operand : Token → Rule Unary
+delete_operand t = either (prefixed t.kind)
+    (read 1 Unary (λ v _. refuse (Some form.Delete)))
+    (either (is_word w.New t)
+    (read 1 New (λ left height. as_read (Deleted left height) (λ v. v)))
+    (read 1 Primary (λ left height. as_read (Deleted left height) (λ v. v))))
 
 abbrev pub unary_by : Prefix → Rule Unary
--- The operand of `delete` and `delete` are one node.
-unary_by prefix.Delete = node 1 (read 0 Unary (λ v _. deleted v))
+unary_by prefix.Delete = node 1 (peek delete_operand)
 unary_by prefix.Void = node 1 (read 1 Unary (λ v _. give (plain (e.Void v.expr))))
 unary_by prefix.Typeof = node 1 (read 1 Unary (λ v _. give (plain (e.Typeof v.expr))))
 unary_by (prefix.Update step) = node 1 (read 1 Left (λ v _. either (target v) (give (plain (e.Update v.expr step side.Prefix))) (refuse None)))
@@ -348,6 +350,31 @@ suffixes_by calls left height tail.Call = either calls
     as_read (Suffixes calls (plain (e.Call left.expr all)) (max (height + 1) (h + 1))) (λ v. v))))
     (give left)
 suffixes_by calls left height tail.Neither = give left
+
+-- A member as written that is the whole operand is one node with `delete`, and nothing else is deleted.
+abbrev pub deleted_level : {left : Operand} {height : ℕ} → (target : Bool) → ExprLevel → Rule (Deleted left height)
+deleted_level true (ExprNode-F.Member base key) = give (plain (e.Delete base key))
+deleted_level _ _ = refuse (Some form.Delete)
+
+abbrev pub deleted : (left : Operand) (height : ℕ) → Rule (Deleted left height)
+deleted left height = deleted_level left.target (expr_level left.expr)
+
+abbrev pub deleted_step : (left : Operand) (height : ℕ) → Option Sign → Rule (Deleted left height)
+deleted_step left height (Some step) = node (height + 2) (refuse (Some form.Delete))
+deleted_step left height None = deleted left height
+
+abbrev pub deleted_end : (left : Operand) (height : ℕ) → Token → Rule (Deleted left height)
+deleted_end left height t = either (target left && not t.after_newline) (deleted_step left height (step_of t.kind)) (deleted left height)
+
+-- A member may be the last, and is then one node with `delete`; a call is one deeper.
+abbrev pub deleted_by : (left : Operand) (height : ℕ) → Token → Tail → Rule (Deleted left height)
+deleted_by left height t tail.Computed = node (height + 1) (read 1 (Expr false) (λ key h. expect m.CloseBracket
+    (as_read (Deleted (a_member left.expr (k.Computed key.expr)) (max (height + 1) (h + 1))) (λ v. v))))
+deleted_by left height t tail.Fixed = node (height + 1) (peek (λ t. fixed (key_of t.kind) (λ key.
+    as_read (Deleted (a_member left.expr (k.Fixed key)) (height + 1)) (λ v. v))))
+deleted_by left height t tail.Call = node (height + 2) (given_at 2 (λ all h.
+    as_read (Deleted (plain (e.Call left.expr all)) (max (height + 1) (h + 1))) (λ v. v)))
+deleted_by left height t tail.Neither = deleted_end left height t
 
 -- an operand with what stands after it, so much deeper
 abbrev pub with_suffixes : {n : Symbol} (k : ℕ) (calls : Bool) → (Operand → Rule n) → Token → Rule n
@@ -426,6 +453,7 @@ grammar Unary = peek (λ t. unary_by (prefix_of t.kind))
 grammar Postfix = read 0 Left (λ left height. peek (postfix_after left height))
 grammar Left = peek (with_suffixes 0 true (λ v. give v))
 grammar (Suffixes calls left height) = peek (λ t. suffixes_by calls left height (tail_of t.kind))
+grammar (Deleted left height) = peek (λ t. deleted_by left height t (tail_of t.kind))
 grammar New = peek (λ t. either (is_word w.New t)
     (node 1 (peek (with_suffixes 1 false (λ callee. peek (new_after callee.expr)))))
     (refuse None))

@@ -80,7 +80,7 @@ pub data Reads (Body : List Token → script.Script → ℕ → List Token → T
       → Reads Body (Assign no_in) ts (plain (e.Assign op a.expr b.expr)) (1 + max h i) rest
   unassigned : {no_in : Bool} {ts us : List Token} {t : Token} {a : Operand} {h : ℕ}
       → Reads Body (Conditional no_in) ts a h (t ∷ us) → (target a ≡ false) ⊎ (assign_of t.kind ≡ None) → Reads Body (Assign no_in) ts a h (t ∷ us)
-  -- Cond : Binary (? Assign : Assign)?
+  -- Cond : Binary, or Binary `?` Assign `:` Assign
   conditional : {no_in : Bool} {ts us ws rest : List Token} {t u : Token} {a b c : Operand} {h i j : ℕ}
       → Reads Body (Binary no_in 10) ts a h (t ∷ us) → is m.Question t ≡ true → Reads Body (Assign no_in) us b i (u ∷ ws) → is m.Colon u ≡ true
       → Reads Body (Assign no_in) ws c j rest
@@ -112,7 +112,7 @@ pub data Reads (Body : List Token → script.Script → ℕ → List Token → T
       → prefix_of t.kind ≡ prefix.Update step → Reads Body (Whole true) ts a h rest → target a ≡ true
       → Reads Body Unary (t ∷ ts) (plain (e.Update a.expr step side.Prefix)) (1 + h) rest
   postfix : {ts rest : List Token} {a : Operand} {h : ℕ} → Reads Body Postfix ts a h rest → Reads Body Unary ts a h rest
-  -- Postfix : Left (++ | --)?
+  -- Postfix : Left, or Left `++`, or Left `--`
   step : {ts us : List Token} {t : Token} {a : Operand} {h : ℕ} {step : Sign}
       → Reads Body (Whole true) ts a h (t ∷ us) → target a ≡ true → t.after_newline ≡ false → step_of t.kind ≡ Some step
       → Reads Body Postfix ts (plain (e.Update a.expr step side.Postfix)) (1 + h) us

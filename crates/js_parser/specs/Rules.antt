@@ -43,6 +43,8 @@ pub data Symbol : Type 0 where
   Left : Symbol
   -- what stands after an operand: with calls, or up to the arguments of a `new`
   Suffixes : (calls : Bool) (left : Operand) (height : ℕ) → Symbol
+  -- What stands after the operand of `delete`. The operand is one deeper than `delete`, but a member as written is one node with it.
+  Deleted : (left : Operand) (height : ℕ) → Symbol
   -- `new`, a callee, and the arguments
   New : Symbol
   Arguments : (so_far : List expr.Expr) → Symbol
@@ -71,6 +73,7 @@ Value Unary = Operand
 Value Postfix = Operand
 Value Left = Operand
 Value (Suffixes calls left height) = Operand
+Value (Deleted left height) = Operand
 Value New = Operand
 Value (Arguments so_far) = List expr.Expr
 Value (Items so_far) = List expr.Expr

@@ -202,6 +202,14 @@ prefix_of (kind.Mark m.BitNot) = prefix.Signed sign.BitNot
 prefix_of (kind.Mark m.Not) = prefix.Signed sign.Not
 prefix_of _ = prefix.Neither
 
+abbrev pub some_prefix : Prefix → Bool
+some_prefix prefix.Neither = false
+some_prefix _ = true
+
+-- an operator stands before an operand
+unfoldable pub prefixed : Kind → Bool
+prefixed k = some_prefix (prefix_of k)
+
 -- what stands after an operand
 unfoldable pub tail_of : Kind → Tail
 tail_of (kind.Mark m.OpenBracket) = tail.Computed
