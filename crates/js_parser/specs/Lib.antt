@@ -6,6 +6,7 @@ pub mod Targets
 pub mod Rules
 pub mod Grammar
 pub mod Goes
+pub mod Meets
 pub mod Claims
 pub mod Paths
 pub mod Productions

@@ -10,7 +10,7 @@ use Rattle.js_tree.specs.declared.Variable as decl
 use Rattle.js_tree.specs.declared.Case as clause
 use Rattle.js_tree.specs.declared.Field as field
 use Rattle.js_lexer.specs.declared.Token.{Token}
-use Rattle.js_tree.specs.Lawful.{Around}
+use Rattle.js_parser.specs.declared.classes.Around.{Around}
 use Rattle.js_parser.specs.declared.classes.Operand.{Operand}
 use Rattle.js_parser.specs.Words.{Units}
 

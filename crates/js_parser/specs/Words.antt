@@ -24,6 +24,8 @@ use Rattle.js_parser.specs.declared.classes.Start.{Start}
 use Rattle.js_parser.specs.declared.classes.Start.TheVariants as start
 use Rattle.js_parser.specs.declared.classes.Head.{Head}
 use Rattle.js_parser.specs.declared.classes.Head.TheVariants as head
+use Rattle.js_parser.specs.declared.classes.Lead.{Lead}
+use Rattle.js_parser.specs.declared.classes.Lead.TheVariants as lead
 use Rattle.js_parser.specs.declared.classes.Prefix.{Prefix}
 use Rattle.js_parser.specs.declared.classes.Prefix.TheVariants as prefix
 use Rattle.js_parser.specs.declared.classes.Tail.{Tail}
@@ -188,6 +190,15 @@ head_of (kind.Mark m.OpenParen) = head.Parenthesis
 head_of (kind.Mark m.Slash) = head.RegExp
 head_of (kind.Mark m.AssignSlash) = head.RegExp
 head_of _ = head.Neither
+
+-- what stands with the first token of an operand
+abbrev pub lead_of : Head → Lead
+lead_of head.Parenthesis = lead.Open
+lead_of (head.Identifier (ident.Out x)) = lead.Refused (Some x)
+lead_of (head.Identifier ident.Other) = lead.Refused None
+lead_of head.RegExp = lead.Refused (Some form.RegExp)
+lead_of head.Neither = lead.Refused None
+lead_of _ = lead.Node
 
 -- what an expression begins with
 unfoldable pub prefix_of : Kind → Prefix

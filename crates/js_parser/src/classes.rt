@@ -5,6 +5,14 @@ use js_lexer::CallWord;
 use js_tree::{BinaryOperator, Expr, Literal, Sign, UnaryOperator};
 use turk_base::Units;
 
+/// What stands round a statement, up to the innermost function.
+#[derive(Clone, Copy, Drop)]
+pub struct Around {
+    pub in_function: bool,
+    pub in_loop: bool,
+    pub in_switch: bool,
+}
+
 /// What stands where a name is due.
 #[derive(Drop)]
 pub enum Name {
@@ -59,6 +67,15 @@ pub enum Head {
     Zero(CallWord),
     RegExp,
     Neither,
+}
+
+/// What stands with the first token of an operand: a node, a parenthesis with no node, or nothing, maybe as a form that
+/// is left out.
+#[derive(Clone, Copy, Drop)]
+pub enum Lead {
+    Node,
+    Open,
+    Refused(Option<Form>),
 }
 
 /// What a unary expression begins with.

@@ -7,7 +7,7 @@ ghost use Rattle.js_parser.specs.Words as spec;
 ghost use Rattle.js_parser.specs.declared.stop.Stop.TheVariants.{Memory};
 
 use crate::Form;
-use crate::classes::{Head, Infix, Name, Prefix, Start, Tail};
+use crate::classes::{Head, Infix, Lead, Name, Prefix, Start, Tail};
 use crate::stop::Stop;
 use js_lexer::{CallWord, Kind, Mark, Reserved, Token, call_units};
 use js_tree::{BinaryOperator, Expr, ExprNode, Literal, Sign, UnaryOperator};
@@ -125,6 +125,35 @@ pub fn prefix_of(kind: &Kind) -> Prefix
         Kind::Mark(Mark::BitNot) => Prefix::Signed(UnaryOperator::BitNot),
         Kind::Mark(Mark::Not) => Prefix::Signed(UnaryOperator::Not),
         _ => Prefix::Neither,
+    }
+}
+
+/// Whether the token is an operator before an operand.
+#[tactic(auto, unfolding(crate::specs::Words::prefixed))]
+pub fn prefixed(kind: &Kind) -> bool
+    ensures { result ≡ spec.prefixed kind.now }
+{
+    match prefix_of(kind) {
+        Prefix::Neither => false,
+        Prefix::Delete => true,
+        Prefix::Void => true,
+        Prefix::Typeof => true,
+        Prefix::Update(_) => true,
+        Prefix::Signed(_) => true,
+    }
+}
+
+/// What stands with the first token of an operand.
+pub fn lead_of(head: Head) -> Lead
+    ensures { result ≡ spec.lead_of head }
+{
+    match head {
+        Head::Parenthesis => Lead::Open,
+        Head::Identifier(Name::Out(form)) => Lead::Refused(Some(form)),
+        Head::Identifier(Name::Other) => Lead::Refused(None),
+        Head::RegExp => Lead::Refused(Some(Form::RegExp)),
+        Head::Neither => Lead::Refused(None),
+        _ => Lead::Node,
     }
 }
 

@@ -3,7 +3,10 @@
 
 pub mod classes;
 mod classify;
+mod deeper;
+mod expressions;
 pub mod laws;
+mod steps;
 pub mod stop;
 
 /// Forms of the language that scripts do not have.
