@@ -1,8 +1,6 @@
 -- An expression that would stand too deep.
-use Rattle.std.proofs.Common.{◌≡◌, ℕ, zero, suc, ◌+◌, ◌<◌, ◌≤◌, Bool, true, false, Option, Some, None, List, [], ◌∷◌, Result, Ok, Err, refl, ap, sym, ◌∙◌, subst, arith, length, drop, get_or, add-one}
-use Rattle.std.proofs.Math.Seq.{drop-cons}
+use Rattle.std.proofs.Common.{◌≡◌, ℕ, zero, suc, ◌+◌, ◌<◌, ◌≤◌, Bool, true, false, Option, Some, None, List, [], ◌∷◌, Result, Ok, Err, refl, ap, sym, ◌∙◌, subst, arith, ◌⊎◌, inl, inr}
 use Rattle.js_lexer.specs.declared.Token.{Token}
-use Rattle.js_lexer.specs.declared.Kind.TheVariants as k
 use Rattle.js_lexer.specs.declared.Reserved.TheVariants as w
 use Rattle.js_parser.specs.declared.Form.{Form}
 use Rattle.js_parser.specs.declared.classes.Prefix.{Prefix}
@@ -18,8 +16,10 @@ use Rattle.js_parser.specs.Rules.{Symbol}
 use Rattle.js_parser.specs.Rules.Symbol.{Expr, Assign, Binary, Unary, New, Primary}
 use Rattle.js_parser.specs.Grammar.{grammar, unary_by, primary_by}
 use Rattle.js_parser.specs.Goes.{Goes}
-use Rattle.js_parser.specs.Meets.{Has}
+use Rattle.js_parser.specs.declared.classes.Lead.{Lead}
+use Rattle.js_parser.specs.Meets.{Has, Opens, Leads}
 use Rattle.js_parser.proofs.Along.{row, peeks, eats, sinks, refuses, fails, fails_level, by, yes, no}
+use Rattle.js_parser.proofs.Table.{begun}
 use Rattle.js_parser.proofs.Tokens.{live_prefix, live_head, live_word, new_no_prefix}
 
 module _ {b : ℕ} {ts : List Token} {e : Stop} (w : Has Unary b (grammar Unary) ts 0 (Err e)) where
@@ -123,3 +123,21 @@ module _ (t : Token) (b : ℕ) (ts : List Token) where
 
     pub deep_open : {e : Stop} → lead_of (head_of t.kind) ≡ lead.Open → Goes 200 (Expr false) (b + 1) (grammar (Expr false)) ts (Err e) → Goes 200 (Expr false) b (grammar (Expr false)) (t ∷ ts) (Err e)
     deep_open e g = from_primary (head_of t.kind) refl (open_head (head_of t.kind) e refl g)
+
+pub stopped_as : {b : ℕ} {ts : List Token} {e f : Stop} → e ≡ f → Goes 200 (Expr false) b (grammar (Expr false)) ts (Err f) → Goes 200 (Expr false) b (grammar (Expr false)) ts (Err e)
+stopped_as {b} {ts} q g = subst (λ x. Goes 200 (Expr false) b (grammar (Expr false)) ts (Err x)) (sym q) g
+
+-- by what the operand leads with
+pub led : (t : Token) → prefixed t.kind ≡ false → is_word w.New t ≡ false → (x : Head) → x ≡ head_of t.kind → (y : Lead) → y ≡ lead_of x → (why : Option Stop) → Leads y t why → Opens t why
+led t free old x q y z None g = λ b ts e stop. deep_open t b ts free old (ap lead_of (sym q) ∙ sym z ∙ g) stop
+led t free old x q y z (Some why) g = λ _ b ts deep. elim g [
+  | inl i ↦ stopped_as i.1 (deep_node t b ts free old (ap lead_of (sym q) ∙ sym z ∙ i.0) deep)
+  | inr i ↦ stopped_as i.2 (deep_refused t b ts free old i.0 (ap lead_of (sym q) ∙ sym z ∙ i.1))
+]
+
+-- at the token that comes next
+pub deep_at : {ts rest : List Token} {t : Token} {e : Stop} {b : ℕ} → ts ≡ t ∷ rest → Goes 200 (Expr false) b (grammar (Expr false)) (t ∷ rest) (Err e) → Goes 200 (Expr false) b (grammar (Expr false)) ts (Err e)
+deep_at {e = e} {b = b} q g = subst (λ x. Goes 200 (Expr false) b (grammar (Expr false)) x (Err e)) (sym q) g
+
+pub deep_end : {ts : List Token} {e : Stop} (b : ℕ) → ts ≡ [] → e ≡ Ends → Goes 200 (Expr false) b (grammar (Expr false)) ts (Err e)
+deep_end {ts} {e} b q z = stopped_as z (subst (λ x. Goes 200 (Expr false) b (grammar (Expr false)) x (Err Ends)) (sym q) (begun 200 (Expr false) b))

@@ -9,7 +9,10 @@ use Rattle.js_tree.specs.declared.Expr as expr
 use Rattle.js_tree.specs.declared.Script as script
 use Rattle.js_tree.specs.declared.Stmt as stmt
 use Rattle.js_parser.specs.declared.stop.Stop.{Stop}
-use Rattle.js_parser.specs.declared.stop.Stop.TheVariants.{Ends, Memory}
+use Rattle.js_parser.specs.declared.stop.Stop.TheVariants.{Ends, Memory, Nesting}
+use Rattle.js_parser.specs.declared.Form.{Form}
+use Rattle.js_parser.specs.declared.classes.Lead.{Lead}
+use Rattle.js_parser.specs.declared.classes.Lead.TheVariants as lead
 use Rattle.js_parser.specs.declared.classes.Operand.{Operand}
 use Rattle.js_parser.specs.Words.{Units, is, is_word, fault, form_at}
 use Rattle.js_parser.specs.Rules.{Context, Symbol, Value, Rule, Done, Outcome}
@@ -113,6 +116,11 @@ pub record Continues (A : Type 0) (b : ℕ) (n m : Symbol) (of_n : A → Value n
 
 -- why no expression begins with the token; none at a parenthesis
 abbrev pub Opens : Token → Option Stop → Type 0
-Opens t (Some why) = (b : ℕ) (ts : List Token) → 200 < b → Goes 200 (Expr false) b (grammar (Expr false)) (t ∷ ts) (Err why)
+Opens t (Some why) = why ≢ Memory → (b : ℕ) (ts : List Token) → 200 < b → Goes 200 (Expr false) b (grammar (Expr false)) (t ∷ ts) (Err why)
 Opens t None = (b : ℕ) (ts : List Token) (e : Stop) → Goes 200 (Expr false) (b + 1) (grammar (Expr false)) ts (Err e)
     → Goes 200 (Expr false) b (grammar (Expr false)) (t ∷ ts) (Err e)
+
+-- the same, of an operand that leads so
+abbrev pub Leads : Lead → Token → Option Stop → Type 0
+Leads x t (Some why) = ((x ≡ lead.Node) × (why ≡ Nesting)) ⊎ ((form : Option Form) × (x ≡ lead.Refused form) × (why ≡ fault (form_at form t) t.start))
+Leads x t None = x ≡ lead.Open

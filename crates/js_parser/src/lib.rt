@@ -4,7 +4,6 @@
 pub mod classes;
 mod classify;
 mod deeper;
-mod expressions;
 pub mod laws;
 mod steps;
 pub mod stop;

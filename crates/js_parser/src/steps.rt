@@ -4,7 +4,7 @@ ghost use Rattle.std.specs.Prelude.{◌≡◌, ◌≢◌, ◌<◌, ℕ, List, Bo
 ghost use Rattle.js_lexer.specs.declared.Token.{Token};
 ghost use Rattle.js_parser.specs.Goes.{Goes};
 ghost use Rattle.js_parser.specs.Grammar.{grammar};
-ghost use Rattle.js_parser.specs.Meets.{Took, Misses, TookWord, MissesWord, TookName, MissesName, TookParameters, MissesParameters, Opens};
+ghost use Rattle.js_parser.specs.Meets.{Took, Misses, TookWord, MissesWord, TookName, MissesName, TookParameters, MissesParameters, Opens, Leads};
 ghost use Rattle.js_parser.specs.Rules.Symbol.{Expr, Names};
 ghost use Rattle.js_parser.specs.Words as spec;
 ghost use Rattle.js_parser.specs.declared.stop.Stop.TheVariants.{Ends, Memory};
@@ -121,19 +121,29 @@ pub fn parameters(alloc: Global, tokens: &[Token]) -> Result<(Items<Units>, &[To
 
 /// Why no expression begins with the token where its node would stand too deep; none at a parenthesis, with which
 /// no node stands.
-fn opens(alloc: Global, token: &Token) -> Result<Option<Stop>, Stop>
-    ensures { MatchResult result (λ why. Opens token.now why) (λ e. e ≡ Memory) }
+fn opens(alloc: Global, token: &Token) -> Option<Stop>
+    ensures { Opens token.now result }
 {
     if prefixed(&token.kind) {
-        return Ok(Some(Stop::Nesting));
+        return Some(Stop::Nesting);
     }
     if is_word(Reserved::New, token) {
-        return Ok(Some(Stop::Nesting));
+        return Some(Stop::Nesting);
     }
-    match lead_of(head_of(alloc, &token.kind)?) {
-        Lead::Node => Ok(Some(Stop::Nesting)),
-        Lead::Open => Ok(None),
-        Lead::Refused(form) => Ok(Some(refused(form, token))),
+    match head_of(alloc, &token.kind) {
+        Ok(head) => leads(lead_of(head), token),
+        Err(stop) => Some(stop),
+    }
+}
+
+/// Why no operand that leads so is read where its node would stand too deep.
+fn leads(lead: Lead, token: &Token) -> Option<Stop>
+    ensures { Leads lead token.now result }
+{
+    match lead {
+        Lead::Node => Some(Stop::Nesting),
+        Lead::Open => None,
+        Lead::Refused(form) => Some(refused(form, token)),
     }
 }
 
@@ -141,12 +151,14 @@ fn opens(alloc: Global, token: &Token) -> Result<Option<Stop>, Stop>
 pub fn beyond(alloc: Global, tokens: &[Token]) -> Stop
     ensures { result ≢ Memory → (b : ℕ) → 200 < b → Goes 200 (Expr false) b (grammar (Expr false)) tokens.now (Err result) }
 {
-    for token in tokens {
-        match opens(alloc, token) {
-            Ok(None) => {}
-            Ok(Some(why)) => return why,
+    let mut left = tokens;
+    loop {
+        match first(left) {
+            Ok((token, rest)) => match opens(alloc, token) {
+                None => left = rest,
+                Some(why) => return why,
+            },
             Err(stop) => return stop,
         }
     }
-    Stop::Ends
 }
