@@ -2,10 +2,10 @@
 #![tactic(auto)]
 
 pub mod classes;
-mod classify;
-mod deeper;
+pub mod classify;
+pub mod deeper;
 pub mod laws;
-mod steps;
+pub mod steps;
 pub mod stop;
 
 /// Forms of the language that scripts do not have.
