@@ -1,5 +1,5 @@
 -- More steps along rows: parts of rows that functions of their own read.
-use Rattle.std.proofs.Common.{◌≡◌, ℕ, ◌+◌, max, Bool, true, false, ◌&&◌, Option, List, [], ◌∷◌, Result, Ok, Err, MatchResult, refl, ap, sym, ◌∙◌, subst, arith}
+use Rattle.std.proofs.Common.{◌≡◌, ℕ, ◌+◌, max, Bool, true, false, ◌&&◌, Option, List, [], ◌∷◌, Result, Ok, Err, MatchResult, length, ◌≤◌, refl, ap, sym, ◌∙◌, subst, arith}
 use Rattle.js_lexer.specs.declared.Token.{Token}
 use Rattle.js_lexer.specs.declared.Mark.TheVariants as m
 use Rattle.js_lexer.specs.declared.Mark.{Mark}
@@ -11,18 +11,21 @@ use Rattle.js_parser.specs.declared.stop.Stop.{Stop}
 use Rattle.js_parser.specs.declared.stop.Stop.TheVariants.{Ends}
 use Rattle.js_parser.specs.declared.classes.Start.{Start}
 use Rattle.js_parser.specs.declared.classes.Start.TheVariants as start
-use Rattle.js_parser.specs.Words.{is, is_end, kind_ends, start_of, labels}
+use Rattle.js_parser.specs.Words.{Units, is, is_end, kind_ends, start_of, labels}
 use Rattle.js_parser.specs.Rules.{Context, Symbol, Value, Rule, Outcome}
-use Rattle.js_parser.specs.Rules.Symbol.{Statement}
-use Rattle.js_parser.specs.Rules.Rule.{refuse, node, stand}
-use Rattle.js_parser.specs.Grammar.{ends, halts, jump, ends_identifier, is_name}
+use Rattle.js_parser.specs.Rules.Symbol.{Statement, Names, Assign}
+use Rattle.js_parser.specs.Rules.Rule.{give, refuse, node}
+use Rattle.js_parser.specs.Grammar.{grammar, ends, halts, jump, ends_identifier, is_name}
 use Rattle.js_tree.specs.declared.Expr as expr
 use Rattle.std.specs.Borrow.{Bor}
-use Rattle.js_parser.proofs.Along.{peeks, no}
+use Rattle.js_parser.proofs.Along.{row, gives, peeks, no}
+use Rattle.js_parser.proofs.Generic.{shorter}
+use Rattle.js_tree.specs.declared.Variable as variable
+use Rattle.js_parser.specs.declared.classes.Operand.{Operand}
 use Rattle.js_parser.specs.Stmts as s
 use Rattle.js_parser.specs.Goes.{Goes, raise}
-use Rattle.js_parser.specs.Goes.Goes.{ends_refuse, ends_node, ends_stand}
-use Rattle.js_parser.specs.Meets.{Has}
+use Rattle.js_parser.specs.Goes.Goes.{ends_refuse, ends_node}
+use Rattle.js_parser.specs.Meets.{Has, TookName}
 use Rattle.js_parser.specs.Meets.Has.{has}
 use Rattle.part_rows.specs.Lines.{Begun, Finished, Unfinished, FinishedName, UnfinishedName}
 
@@ -98,3 +101,15 @@ pub ends_named : {ts rest : List Token} {t : Token} (value : expr.Expr) (r : Res
     → MatchResult r (λ after. FinishedName value ts after.now) (λ e. UnfinishedName value ts e)
 ends_named value (Ok after) e q f = record { row = λ c b h. peeks e (no _ q (f.row c b h (s.Expression value))) }
 ends_named value (Err x) e q f = record { row = λ c b h. peeks e (no _ q (f.row c b h (s.Expression value))) }
+
+-- ---- a variable
+
+pub named_shorter : {ts rest : List Token} {units : Units} → TookName ts units rest → length rest ≤ length ts
+named_shorter {ts} {rest} {units} took = shorter (row (took.row (Names []) 0 0 (λ x. give (x ∷ [])) _ (gives {v = units ∷ []} {k = 0} refl refl)))
+
+pub given_shorter : {no_in : Bool} {b i : ℕ} {ts named after rest : List Token} {units : Units} {t : Token} {value : Operand} → TookName ts units named → named ≡ t ∷ after
+    → Goes 200 (Assign no_in) b (grammar (Assign no_in)) after (Ok record { value = value; height = i; rest = rest }) → length rest ≤ length ts
+given_shorter took e g = omega (arith, named_shorter took, ap length e, shorter g)
+
+pub of_variable : {n : Symbol} {b h : ℕ} (rule : variable.Variable → Rule n) {v w : variable.Variable} {ts : List Token} {o : Outcome n} → w ≡ v → Has n b (rule w) ts h o → Has n b (rule v) ts h o
+of_variable {n} {b} {h} rule {ts = ts} {o = o} e x = subst (λ y. Has n b (rule y) ts h o) e x

@@ -67,3 +67,25 @@ module _ {no_in : Bool} {b height : ℕ} {so_far : List variable.Variable} {one 
 pub at_last : {A : Type 0} {b : ℕ} {n m : Symbol} {of_n : A → Value n} {of_m : A → Value m} {tall k : ℕ} {v : A} {ts rest all : List Token} → Continues A b n m of_n of_m tall ts all
     → k ≡ tall → Goes 200 n b (grammar n) ts (Ok record { value = of_n v; height = 0; rest = rest }) → Goes 200 m b (grammar m) all (Ok record { value = of_m v; height = k; rest = rest })
 at_last {m = m} {b = b} {of_m = of_m} {tall = tall} {k = k} {v = v} {rest = rest} {all = all} c e g = subst (λ x. Goes 200 m b (grammar m) all (Ok record { value = of_m v; height = x; rest = rest })) (omega arith) (c.reads v 0 rest g)
+
+-- ---- a turn after the others
+
+module _ {c : Context} {b tall height : ℕ} {so_far first : List Stmt} {one : Stmt} {ts all rest us : List Token} {t : Token}
+    (turns : Continues (List Stmt) b (Statements c so_far) (Statements c first) (λ v. v) (λ v. v) tall ts all) where
+  pub again_statements : ts ≡ t ∷ us → stops t ≡ false → Goes 200 (Statement c) b (grammar (Statement c)) ts (Ok record { value = one; height = height; rest = rest })
+      → (more : List Stmt) (high : ℕ) → more ≡ so_far ++ one ∷ [] → high ≡ max tall height → Continues (List Stmt) b (Statements c more) (Statements c first) (λ v. v) (λ v. v) high rest all
+  again_statements next q read more high e w = subst (λ x. Continues (List Stmt) b (Statements c x) (Statements c first) (λ v. v) (λ v. v) high rest all) (sym e) (chain turns (turn_statement next q read) w)
+
+module _ {no_in : Bool} {b tall height : ℕ} {so_far first : List variable.Variable} {one : variable.Variable} {ts all rest after : List Token} {t : Token}
+    (turns : Continues (List variable.Variable) b (Decls no_in so_far) (Decls no_in first) (λ v. v) (λ v. v) tall ts all) (took : TookVariable no_in b ts one height rest) (next : rest ≡ t ∷ after) where
+  pub again_variables : is m.Comma t ≡ true → (more : List variable.Variable) (high : ℕ) → more ≡ so_far ++ one ∷ [] → high ≡ max tall height
+      → Continues (List variable.Variable) b (Decls no_in more) (Decls no_in first) (λ v. v) (λ v. v) high after all
+  again_variables q more high e w = subst (λ x. Continues (List variable.Variable) b (Decls no_in x) (Decls no_in first) (λ v. v) (λ v. v) high after all) (sym e) (chain turns (turn_variable took next q) w)
+
+  pub last_variables : is m.Comma t ≡ false → (more : List variable.Variable) (high : ℕ) → more ≡ so_far ++ one ∷ [] → high ≡ max tall height
+      → Goes 200 (Decls no_in first) b (grammar (Decls no_in first)) all (Ok record { value = more; height = high; rest = rest })
+  last_variables q more high e w = subst (λ x. Goes 200 (Decls no_in first) b (grammar (Decls no_in first)) all (Ok record { value = x; height = high; rest = rest })) (sym e)
+      (subst (λ x. Goes 200 (Decls no_in first) b (grammar (Decls no_in first)) all (Ok record { value = so_far ++ one ∷ []; height = x; rest = rest })) (sym w) (turns.reads (so_far ++ one ∷ []) height rest (last_variable took next q)))
+
+  pub smaller_variables : length after < length ts
+  smaller_variables = omega (arith, ap length next, took.shorter)

@@ -1,5 +1,5 @@
 -- What the functions for statements and their parts answer.
-use Rattle.std.specs.Prelude.{◌≡◌, ◌≢◌, ℕ, max, ◌+◌, Bool, true, false, List, [], ◌∷◌, ◌++◌, Result, Ok, Err, Option, Some, None, ◌&&◌, ◌≤◌, IfOk}
+use Rattle.std.specs.Prelude.{◌≡◌, ◌≢◌, ℕ, max, ◌+◌, Bool, true, false, List, [], ◌∷◌, ◌++◌, Result, Ok, Err, Option, Some, None, ◌&&◌, ◌≤◌, IfOk, length}
 use Rattle.std.specs.Borrow.{Bor}
 use Rattle.js_lexer.specs.declared.Token.{Token}
 use Rattle.js_lexer.specs.declared.Mark.TheVariants as m
@@ -56,6 +56,7 @@ a_variable no_in rule = a_name (λ units. peek (λ t. either (is m.Assign t)
 
 pub record TookVariable (no_in : Bool) (b : ℕ) (ts : List Token) (one : declared.Variable) (height : ℕ) (rest : List Token) : Type 0 where
   pub row : (n : Symbol) (h : ℕ) (rule : declared.Variable → Rule n) (o : Outcome n) → Has n b (rule one) rest (max h height) o → Has n b (a_variable no_in rule) ts h o
+  pub shorter : length rest ≤ length ts
 
 pub record MissesVariable (no_in : Bool) (b : ℕ) (ts : List Token) (e : Stop) : Type 0 where
   pub row : (n : Symbol) (h : ℕ) (rule : declared.Variable → Rule n) → Has n b (a_variable no_in rule) ts h (Err e)

@@ -1,5 +1,5 @@
 //! What the rows of statements are made of.
-#![tactic(none)]
+#![tactic(auto)]
 
 pub mod below;
 pub mod finish;
