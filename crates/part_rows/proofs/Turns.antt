@@ -21,7 +21,7 @@ use Rattle.js_parser.proofs.Tokens.{live_mark}
 -- one turn after the others
 pub chain : {A : Type 0} {b : ℕ} {k n m : Symbol} {of_k : A → Value k} {of_n : A → Value n} {of_m : A → Value m} {tall height more : ℕ} {us ts all : List Token}
     → Continues A b n m of_n of_m tall ts all → Continues A b k n of_k of_n height us ts → more ≡ max tall height → Continues A b k m of_k of_m more us all
-chain {m = m} {b = b} {of_m = of_m} {tall = tall} {height = height} {all = all} c d e = record {
+chain {b = b} {m = m} {of_m = of_m} {tall = tall} {height = height} {all = all} c d e = record {
   reads = λ v h rest g. subst (λ x. Goes 200 m b (grammar m) all (Ok record { value = of_m v; height = x; rest = rest })) (omega arith) (c.reads v (max height h) rest (d.reads v h rest g));
   stops = λ x g. c.stops x (d.stops x g);
 }
@@ -66,7 +66,7 @@ module _ {no_in : Bool} {b height : ℕ} {so_far : List variable.Variable} {one 
 -- a list read to its end
 pub at_last : {A : Type 0} {b : ℕ} {n m : Symbol} {of_n : A → Value n} {of_m : A → Value m} {tall k : ℕ} {v : A} {ts rest all : List Token} → Continues A b n m of_n of_m tall ts all
     → k ≡ tall → Goes 200 n b (grammar n) ts (Ok record { value = of_n v; height = 0; rest = rest }) → Goes 200 m b (grammar m) all (Ok record { value = of_m v; height = k; rest = rest })
-at_last {m = m} {b = b} {of_m = of_m} {tall = tall} {k = k} {v = v} {rest = rest} {all = all} c e g = subst (λ x. Goes 200 m b (grammar m) all (Ok record { value = of_m v; height = x; rest = rest })) (omega arith) (c.reads v 0 rest g)
+at_last {b = b} {m = m} {of_m = of_m} {tall = tall} {k = k} {v = v} {rest = rest} {all = all} c e g = subst (λ x. Goes 200 m b (grammar m) all (Ok record { value = of_m v; height = x; rest = rest })) (omega arith) (c.reads v 0 rest g)
 
 -- ---- a turn after the others
 
