@@ -1,0 +1,56 @@
+//! What the walk over a script carries along.
+ghost use Rattle.std.specs.Prelude.{◌≡◌, ◌+◌, min, IfOk};
+ghost use Rattle.scope_names.specs.Walks.{Enters, LeavesFrame};
+
+use crate::NoRoom;
+use crate::names::Names;
+use crate::scopes::Scopes;
+
+/// The frames round the place, the number of the next function, and the declared names so far.
+#[derive(Drop)]
+pub struct Walk {
+    pub scopes: Scopes,
+    pub next: u32,
+    pub names: u32,
+}
+
+impl Walk {
+    /// Goes into a frame with these names.
+    pub fn enter(self, names: Names, own: bool) -> Result<Walk, NoRoom>
+        ensures { IfOk result (λ walk. Enters self (record { names = names; own = own }) walk) }
+    {
+        let count = names.len();
+        let Walk {
+            scopes,
+            next,
+            names: before,
+        } = self;
+        let scopes = scopes.enter(names, own)?;
+        Ok(Walk {
+            scopes,
+            next,
+            names: added(before, count),
+        })
+    }
+
+    /// Leaves the innermost frame.
+    pub fn leave(self) -> Walk
+        ensures { LeavesFrame self result }
+    {
+        Walk {
+            scopes: self.scopes.leave(),
+            next: self.next,
+            names: self.names,
+        }
+    }
+}
+
+/// A count with more added, at most 65,536.
+fn added(before: u32, more: usize) -> u32
+    ensures { result ≡ min (before + more) 65536 }
+{
+    if more >= 65536 || before >= 65536 {
+        return 65536;
+    }
+    (before + more as u32).min(65536)
+}
