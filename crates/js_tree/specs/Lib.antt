@@ -6,6 +6,7 @@ pub mod Expressions
 pub mod Lawful
 pub mod NameCount
 pub mod Open
+pub mod OpenTree
 pub mod Operate
 pub mod Pieces
 pub mod Report
