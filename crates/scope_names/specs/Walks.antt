@@ -1,5 +1,5 @@
 -- What a part of the walk over a script does: which tree it makes of which, and what it leaves of the walk.
-use Rattle.std.specs.Prelude.{◌≡◌, ℕ, suc, ◌+◌, ◌≤◌, min, List, [], ◌∷◌, map, length, sum_by, slice_get, Option, Some, None, Result, Ok}
+use Rattle.std.specs.Prelude.{◌≡◌, ℕ, suc, ◌+◌, ◌≤◌, min, List, [], ◌∷◌, map, length, sum_by, slice_get, Option, Some, None, Result, IfOk}
 use Rattle.std.specs.Option.{option_map}
 use Rattle.std.specs.Borrow.{Bor}
 use Rattle.js_tree.specs.Trees.{number_of}
@@ -80,4 +80,4 @@ pub record LeavesFrame (before after : Walk) : Type 0 where
 -- A function that makes trees of this kind of what it is lent.
 pub record Makes {A : Type 0} (kind : ℕ → Kind A) (left : ℕ) (pre : Walk → ℕ → Bor A → Type 0) (post : Walk → ℕ → Bor A → Result (A × Walk) NoRoom → Type 0) : Type 0 where
   pub callable : (walk : Walk) (given : Bor A) → pre walk left given
-  pub makes : (walk : Walk) (given : Bor A) (made : A × Walk) → post walk left given (Ok made) → Resolves (kind left) walk given.now made.0 made.1
+  pub makes : (walk : Walk) (given : Bor A) (r : Result (A × Walk) NoRoom) → post walk left given r → IfOk r (λ made. Resolves (kind left) walk given.now made.0 made.1)

@@ -1,6 +1,7 @@
 //! Binds the names of a script: each name gets the place of its declaration, each function its number.
 #![tactic(auto)]
 
+mod hoist;
 mod names;
 mod scopes;
 mod walk;
