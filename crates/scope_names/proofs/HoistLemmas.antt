@@ -35,7 +35,7 @@ pub gather_next : {A : Type 0} (f : A → List Units) (ns : List Units) (xs : Li
     → gathered (gathered ns (gather f (take i xs))) (f x) ≡ gathered ns (gather f (take (i + 1) xs))
 gather_next f ns xs i x h e =
     sym (gathered-append ns (gather f (take i xs)) (f x))
-      ∙ ap (gathered ns) (sym (ap (gather f) (take_next xs i x h e) ∙ gather-append f (take i xs) (x ∷ []) ∙ ap (λ l. gather f (take i xs) ++ l) (append-none (f x))))
+    ∙ ap (gathered ns) (sym (ap (gather f) (take_next xs i x h e) ∙ gather-append f (take i xs) (x ∷ []) ∙ ap (λ l. gather f (take i xs) ++ l) (append-none (f x))))
 
 pub map_next : {A : Type 0} (f : A → Units) (ns : List Units) (xs : List A) (i : ℕ) (x : A) → i < length xs → x ≡ get_or xs i x
     → with_name (gathered ns (map f (take i xs))) (f x) ≡ gathered ns (map f (take (i + 1) xs))

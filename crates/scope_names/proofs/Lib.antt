@@ -4,3 +4,6 @@ pub mod HoistLemmas
 pub mod Parts
 pub mod ExprParts
 pub mod BindLemmas
+pub mod StmtParts
+pub mod OtherParts
+pub mod FrameParts

@@ -54,6 +54,7 @@ has-with_name ns y x = by (has ns y) refl
     there : has ns y ≡ true → (b : Bool) → same_units y x ≡ b → has ns x ≡ has ns x || b
     there h true e = let known : has ns x ≡ true = ap (has ns) (sym (same_equal y x e)) ∙ h in known ∙ sym (or_true (has ns x))
     there h false e = sym (or_false (has ns x))
+
     by : (b : Bool) → has ns y ≡ b → has (cond b ns (ns ++ y ∷ [])) x ≡ has ns x || same_units y x
     by true h = there h (same_units y x) refl
     by false h = has-last ns y x
@@ -114,7 +115,7 @@ past_name : (ns ys : List Units) (x y : Units) → same_units y x ≡ false → 
 past_name ns ys x y h rest =
     let same : has (ns ++ x ∷ []) y ≡ has ns y = has-last ns x y ∙ ap (λ b. has ns y || b) (same_back x y ∙ h) ∙ or_false (has ns y) in
     (λ i. cond (has ys y || has ns y) (rest i) (suc (rest i))) ∙ one_more (has ys y || has ns y) (fresh (ns ++ x ∷ []) ys)
-      ∙ (λ i. suc (cond (has ys y || sym same i) (fresh (ns ++ x ∷ []) ys) (suc (fresh (ns ++ x ∷ []) ys))))
+    ∙ (λ i. suc (cond (has ys y || sym same i) (fresh (ns ++ x ∷ []) ys) (suc (fresh (ns ++ x ∷ []) ys))))
 
 present : (ns xs : List Units) (x : Units) → has xs x ≡ true → has ns x ≡ false → fresh ns xs ≡ suc (fresh (ns ++ x ∷ []) xs)
 present ns [] x e new = absurd (true≢false (sym e))
@@ -131,6 +132,7 @@ length-gathered_from ns (x ∷ xs) = by (has ns x) refl (length-gathered_from ns
     unknown : has ns x ≡ false → (b : Bool) → has xs x ≡ b → suc (fresh (ns ++ x ∷ []) xs) ≡ cond (b || has ns x) (fresh ns xs) (suc (fresh ns xs))
     unknown h true e = sym (present ns xs x e h)
     unknown h false e = ap suc (absent ns xs x e) ∙ ap (λ b. cond b (fresh ns xs) (suc (fresh ns xs))) (sym h)
+
     by : (b : Bool) → has ns x ≡ b → length (gathered ns xs) ≡ length ns + fresh ns xs → length (gathered (ns ++ x ∷ []) xs) ≡ length (ns ++ x ∷ []) + fresh (ns ++ x ∷ []) xs
         → length (gathered (cond b ns (ns ++ x ∷ [])) xs) ≡ length ns + fresh ns (x ∷ xs)
     by true h known new = known ∙ ap (λ n. length ns + n) (sym (counts_known (has xs x) (has ns x) (fresh ns xs) h))

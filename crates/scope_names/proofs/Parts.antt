@@ -81,7 +81,8 @@ two {a} {b} {c} p q = record {
   moves = after p.moves q.moves;
   bound = λ table frames at sits. (
     p.bound table frames at (sits_left table a.next p.codes q.codes sits),
-    q.bound table frames (p.moves.scopes ∙ at) (sits_right table a.next b.next p.codes q.codes p.moves.next sits));
+    q.bound table frames (p.moves.scopes ∙ at) (sits_right table a.next b.next p.codes q.codes p.moves.next sits),
+  );
 }
 
 -- the same part, said otherwise

@@ -30,7 +30,7 @@ same_step a b i h k = λ j. same_units (drop-cons a i 0 h j) (drop-cons b i 0 k 
 pub shown_at : (frames : List Scope) (k : ℕ) (s : Scope) → k < length frames → s ≡ get_or frames (length frames - 1 - k) s → slice_get (shown frames) k ≡ Some (frame_shown s)
 shown_at frames k s h e =
     slice_get-map frame_shown (reverse frames) k
-      ∙ ap (option_map frame_shown) (slice_get_read (reverse frames) (length frames) k s (sym (length-reverse frames)) h (e ∙ sym (get_or-reverse frames k s h)))
+    ∙ ap (option_map frame_shown) (slice_get_read (reverse frames) (length frames) k s (sym (length-reverse frames)) h (e ∙ sym (get_or-reverse frames k s h)))
 
 pub some_inside : {A : Type 0} {a b : A} → Some a ≡ Some b → a ≡ b
 some_inside e = cc
@@ -77,7 +77,7 @@ pub same_next : (a b : Units) (i : ℕ) → i < length a → length b ≡ length
 same_next a b i h long here so_far =
     let next : i + 1 ≡ suc i = omega arith in
     ap (λ n. same_units (drop n a) (drop n b)) next
-      ∙ sym (ap (λ t. t && same_units (drop (suc i) a) (drop (suc i) b)) (nat_same (get_or a i 0) (get_or b i 0) here)) ∙ sym (same_step a b i h (omega arith)) ∙ so_far
+    ∙ sym (ap (λ t. t && same_units (drop (suc i) a) (drop (suc i) b)) (nat_same (get_or a i 0) (get_or b i 0) here)) ∙ sym (same_step a b i h (omega arith)) ∙ so_far
 
 -- two words that are the same to their ends
 pub same_all : (a b : Units) (i : ℕ) → length a ≤ i → length b ≡ length a → same_units (drop i a) (drop i b) ≡ same_units a b → true ≡ same_units a b

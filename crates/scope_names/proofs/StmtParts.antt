@@ -1,7 +1,8 @@
 -- What the walk does with a statement, from what it does with its parts.
-use Rattle.std.specs.Prelude.{ℕ, zero, suc, ◌+◌, ◌≤◌, ◌≡◌, refl, List, [], ◌∷◌, ◌++◌, Option, Some, None, map, Bool, true, false, count_by, is_none}
+use Rattle.std.specs.Prelude.{ℕ, zero, suc, ◌+◌, ◌≤◌, ◌≡◌, refl, List, [], ◌∷◌, ◌++◌, Option, Some, None, map, Bool, true, false, count_by, is_none, cond}
 use Rattle.std.specs.Option.{option_map}
 use Rattle.std.proofs.Common.{arith, ap, sym, ◌∙◌, subst}
+use Rattle.std.proofs.lemmas.List.Sums.{sum_by-cons}
 use Rattle.js_tree.specs.declared.StmtNode.{StmtNode, out-StmtNode, out-roll-StmtNode}
 use Rattle.js_tree.specs.declared.ExprNode.TheOpen.{StmtNode-F, ForStart-F, ForTarget-F}
 use Rattle.js_tree.specs.declared.StmtNode.TheVariants as s
@@ -89,7 +90,8 @@ defaults m [] = refl
 defaults m (x ∷ xs) = λ i. default_bare m x i ∷ defaults m xs i
 
 count_flags : {A : Type 0} (p : A → Bool) (xs : List A) → count_by p xs ≡ count_by (λ b. b) (map p xs)
-count_flags p xs = ?
+count_flags p [] = refl
+count_flags p (x ∷ xs) = sum_by-cons (λ y. cond (p y) 1 0) x xs ∙ ap (λ n. cond (p x) 1 0 + n) (count_flags p xs) ∙ sym (sum_by-cons (λ b. cond b 1 0) (p x) (map p xs))
 
 default_kept : (m : ℕ) (xs ys : List Case) → map (bare_case (expr_bare m) (stmt_bare m) (declaration_bare m)) ys ≡ map (bare_case (expr_bare m) (stmt_bare m) (declaration_bare m)) xs → count_by is_default xs ≤ 1 → count_by is_default ys ≤ 1
 default_kept m xs ys e h =
@@ -109,83 +111,83 @@ pub stmt_at : (m : ℕ) {w w' : Walk} {n L : ℕ} {f : ℕ → Codes} {A : Codes
 unfolding stmt_codes stmt_count StmtBound stmt_bare StmtWithin
 stmt_at m x y N K ex ey less count codes bound same lawful p = record {
   part = raised less (count ∙ ap (count_stmt (expr_count m) (stmt_count m) (declaration_count m)) (sym ex))
-    (λ d. ap (in_stmt (expr_codes d) (stmt_codes d) (body_codes d)) ey ∙ codes d)
-    (λ table frames h. subst (BoundStmt table (ExprBound table m) (StmtBound table m) (DeclarationBound table m) frames) (sym ey) (bound table frames h)) p;
+      (λ d. ap (in_stmt (expr_codes d) (stmt_codes d) (body_codes d)) ey ∙ codes d)
+      (λ table frames h. subst (BoundStmt table (ExprBound table m) (StmtBound table m) (DeclarationBound table m) frames) (sym ey) (bound table frames h)) p;
   same = ap stmt_of (ap (bare_stmt (expr_bare m) (stmt_bare m) (declaration_bare m)) ey ∙ same ∙ ap (bare_stmt (expr_bare m) (stmt_bare m) (declaration_bare m)) (sym ex));
   lawful = λ c h. subst (LawfulStmt (ExprWithin m) (StmtWithin m) (DeclarationWithin m) c) (sym ey) (lawful c (subst (LawfulStmt (ExprWithin m) (StmtWithin m) (DeclarationWithin m) c) ex h));
 }
 
 pub empty_made : (m : ℕ) {w : Walk} (x : Stmt) → x.node ≡ s.Empty → Resolves (stmt_kind (suc m)) w x (stmt_of (s.Empty)) w
-empty_made m {w} x at  =
+empty_made m {w} x at =
     stmt_at m x (stmt_of (s.Empty)) StmtNode-F.Empty StmtNode-F.Empty (ap out-StmtNode (at ∙ sym (s.rolls-Empty)) ∙ out-roll-StmtNode StmtNode-F.Empty) (ap out-StmtNode (sym (s.rolls-Empty)) ∙ out-roll-StmtNode StmtNode-F.Empty) (below m)
-      refl (λ d. refl) (λ table frames h. h) refl (λ c h. h) (none w (m + m))
+    refl (λ d. refl) (λ table frames h. h) refl (λ c h. h) (none w (m + m))
 
 pub continue_made : (m : ℕ) {w : Walk} (x : Stmt) → x.node ≡ s.Continue → Resolves (stmt_kind (suc m)) w x (stmt_of (s.Continue)) w
-continue_made m {w} x at  =
+continue_made m {w} x at =
     stmt_at m x (stmt_of (s.Continue)) StmtNode-F.Continue StmtNode-F.Continue (ap out-StmtNode (at ∙ sym (s.rolls-Continue)) ∙ out-roll-StmtNode StmtNode-F.Continue) (ap out-StmtNode (sym (s.rolls-Continue)) ∙ out-roll-StmtNode StmtNode-F.Continue) (below m)
-      refl (λ d. refl) (λ table frames h. h) refl (λ c h. h) (none w (m + m))
+    refl (λ d. refl) (λ table frames h. h) refl (λ c h. h) (none w (m + m))
 
 pub break_made : (m : ℕ) {w : Walk} (x : Stmt) → x.node ≡ s.Break → Resolves (stmt_kind (suc m)) w x (stmt_of (s.Break)) w
-break_made m {w} x at  =
+break_made m {w} x at =
     stmt_at m x (stmt_of (s.Break)) StmtNode-F.Break StmtNode-F.Break (ap out-StmtNode (at ∙ sym (s.rolls-Break)) ∙ out-roll-StmtNode StmtNode-F.Break) (ap out-StmtNode (sym (s.rolls-Break)) ∙ out-roll-StmtNode StmtNode-F.Break) (below m)
-      refl (λ d. refl) (λ table frames h. h) refl (λ c h. h) (none w (m + m))
+    refl (λ d. refl) (λ table frames h. h) refl (λ c h. h) (none w (m + m))
 
 pub block_made : (m : ℕ) {w w' : Walk} (x : Stmt) {ys zs : List Stmt} → x.node ≡ s.Block ys → Resolves (list_kind (stmt_kind m)) w ys zs w' → Resolves (stmt_kind (suc m)) w x (stmt_of (s.Block zs)) w'
-block_made m {w w'} x {ys} {zs} at r0 =
+block_made m {w} {w'} x {ys} {zs} at r0 =
     stmt_at m x (stmt_of (s.Block zs)) (StmtNode-F.Block ys) (StmtNode-F.Block zs) (ap out-StmtNode (at ∙ sym (s.rolls-Block ys)) ∙ out-roll-StmtNode (StmtNode-F.Block ys)) (ap out-StmtNode (sym (s.rolls-Block zs)) ∙ out-roll-StmtNode (StmtNode-F.Block zs)) (below m)
-      refl (λ d. refl) (λ table frames h. h) (ap s.Block r0.same) (λ c h. r0.lawful c h) r0.part
+    refl (λ d. refl) (λ table frames h. h) (ap s.Block r0.same) (λ c h. r0.lawful c h) r0.part
 
 pub var_made : (m : ℕ) {w w' : Walk} (x : Stmt) {ys zs : List Variable} → x.node ≡ s.Var ys → Resolves (list_kind (variable_kind m)) w ys zs w' → Resolves (stmt_kind (suc m)) w x (stmt_of (s.Var zs)) w'
-var_made m {w w'} x {ys} {zs} at r0 =
+var_made m {w} {w'} x {ys} {zs} at r0 =
     stmt_at m x (stmt_of (s.Var zs)) (StmtNode-F.Var ys) (StmtNode-F.Var zs) (ap out-StmtNode (at ∙ sym (s.rolls-Var ys)) ∙ out-roll-StmtNode (StmtNode-F.Var ys)) (ap out-StmtNode (sym (s.rolls-Var zs)) ∙ out-roll-StmtNode (StmtNode-F.Var zs)) (below m)
-      refl (λ d. refl) (λ table frames h. h) (ap s.Var r0.same) (λ c h. r0.lawful c h) r0.part
+    refl (λ d. refl) (λ table frames h. h) (ap s.Var r0.same) (λ c h. r0.lawful c h) r0.part
 
 pub expression_made : (m : ℕ) {w w' : Walk} (x : Stmt) {a b : Expr} → x.node ≡ s.Expression a → Resolves (expr_kind m) w a b w' → Resolves (stmt_kind (suc m)) w x (stmt_of (s.Expression b)) w'
-expression_made m {w w'} x {a} {b} at r0 =
+expression_made m {w} {w'} x {a} {b} at r0 =
     stmt_at m x (stmt_of (s.Expression b)) (StmtNode-F.Expression a) (StmtNode-F.Expression b) (ap out-StmtNode (at ∙ sym (s.rolls-Expression a)) ∙ out-roll-StmtNode (StmtNode-F.Expression a)) (ap out-StmtNode (sym (s.rolls-Expression b)) ∙ out-roll-StmtNode (StmtNode-F.Expression b)) (below m)
-      refl (λ d. refl) (λ table frames h. h) (ap s.Expression r0.same) (λ c h. r0.lawful c h) r0.part
+    refl (λ d. refl) (λ table frames h. h) (ap s.Expression r0.same) (λ c h. r0.lawful c h) r0.part
 
 pub throw_made : (m : ℕ) {w w' : Walk} (x : Stmt) {a b : Expr} → x.node ≡ s.Throw a → Resolves (expr_kind m) w a b w' → Resolves (stmt_kind (suc m)) w x (stmt_of (s.Throw b)) w'
-throw_made m {w w'} x {a} {b} at r0 =
+throw_made m {w} {w'} x {a} {b} at r0 =
     stmt_at m x (stmt_of (s.Throw b)) (StmtNode-F.Throw a) (StmtNode-F.Throw b) (ap out-StmtNode (at ∙ sym (s.rolls-Throw a)) ∙ out-roll-StmtNode (StmtNode-F.Throw a)) (ap out-StmtNode (sym (s.rolls-Throw b)) ∙ out-roll-StmtNode (StmtNode-F.Throw b)) (below m)
-      refl (λ d. refl) (λ table frames h. h) (ap s.Throw r0.same) (λ c h. r0.lawful c h) r0.part
+    refl (λ d. refl) (λ table frames h. h) (ap s.Throw r0.same) (λ c h. r0.lawful c h) r0.part
 
 pub return_made : (m : ℕ) {w w' : Walk} (x : Stmt) {a b : Option Expr} → x.node ≡ s.Return a → Resolves (option_kind (expr_kind m)) w a b w' → Resolves (stmt_kind (suc m)) w x (stmt_of (s.Return b)) w'
-return_made m {w w'} x {a} {b} at r0 =
+return_made m {w} {w'} x {a} {b} at r0 =
     stmt_at m x (stmt_of (s.Return b)) (StmtNode-F.Return a) (StmtNode-F.Return b) (ap out-StmtNode (at ∙ sym (s.rolls-Return a)) ∙ out-roll-StmtNode (StmtNode-F.Return a)) (ap out-StmtNode (sym (s.rolls-Return b)) ∙ out-roll-StmtNode (StmtNode-F.Return b)) (below m)
-      refl (λ d. refl) (λ table frames h. h) (ap s.Return r0.same) (λ c h. (h.0, r0.lawful c h.1)) r0.part
+    refl (λ d. refl) (λ table frames h. h) (ap s.Return r0.same) (λ c h. (h.0, r0.lawful c h.1)) r0.part
 
 pub if_made : (m : ℕ) {w v u w' : Walk} (x : Stmt) {a a' : Expr} {b b' : Stmt} {d d' : Option Stmt} → x.node ≡ s.If a b d → Resolves (expr_kind m) w a a' v → Resolves (stmt_kind m) v b b' u → Resolves (option_kind (stmt_kind m)) u d d' w' → Resolves (stmt_kind (suc m)) w x (stmt_of (s.If a' b' d')) w'
-if_made m {w v u w'} x {a} {a'} {b} {b'} {d} {d'} at r0 r1 r2 =
+if_made m {w} {v} {u} {w'} x {a} {a'} {b} {b'} {d} {d'} at r0 r1 r2 =
     stmt_at m x (stmt_of (s.If a' b' d')) (StmtNode-F.If a b d) (StmtNode-F.If a' b' d') (ap out-StmtNode (at ∙ sym (s.rolls-If a b d)) ∙ out-roll-StmtNode (StmtNode-F.If a b d)) (ap out-StmtNode (sym (s.rolls-If a' b' d')) ∙ out-roll-StmtNode (StmtNode-F.If a' b' d')) (below m)
-      refl (λ d. refl) (λ table frames h. h) (λ i. s.If (r0.same i) (r1.same i) (r2.same i)) (λ c h. (r0.lawful c h.0, r1.lawful c h.1, r2.lawful c h.2)) (three r0.part r1.part r2.part)
+    refl (λ d. refl) (λ table frames h. h) (λ i. s.If (r0.same i) (r1.same i) (r2.same i)) (λ c h. (r0.lawful c h.0, r1.lawful c h.1, r2.lawful c h.2)) (three r0.part r1.part r2.part)
 
 pub do_made : (m : ℕ) {w v w' : Walk} (x : Stmt) {a a' : Stmt} {b b' : Expr} → x.node ≡ s.DoWhile a b → Resolves (stmt_kind m) w a a' v → Resolves (expr_kind m) v b b' w' → Resolves (stmt_kind (suc m)) w x (stmt_of (s.DoWhile a' b')) w'
-do_made m {w v w'} x {a} {a'} {b} {b'} at r0 r1 =
+do_made m {w} {v} {w'} x {a} {a'} {b} {b'} at r0 r1 =
     stmt_at m x (stmt_of (s.DoWhile a' b')) (StmtNode-F.DoWhile a b) (StmtNode-F.DoWhile a' b') (ap out-StmtNode (at ∙ sym (s.rolls-DoWhile a b)) ∙ out-roll-StmtNode (StmtNode-F.DoWhile a b)) (ap out-StmtNode (sym (s.rolls-DoWhile a' b')) ∙ out-roll-StmtNode (StmtNode-F.DoWhile a' b')) (below m)
-      refl (λ d. refl) (λ table frames h. h) (λ i. s.DoWhile (r0.same i) (r1.same i)) (λ c h. (r0.lawful (loop_round c) h.0, r1.lawful c h.1)) (two r0.part r1.part)
+    refl (λ d. refl) (λ table frames h. h) (λ i. s.DoWhile (r0.same i) (r1.same i)) (λ c h. (r0.lawful (loop_round c) h.0, r1.lawful c h.1)) (two r0.part r1.part)
 
 pub while_made : (m : ℕ) {w v w' : Walk} (x : Stmt) {a a' : Expr} {b b' : Stmt} → x.node ≡ s.While a b → Resolves (expr_kind m) w a a' v → Resolves (stmt_kind m) v b b' w' → Resolves (stmt_kind (suc m)) w x (stmt_of (s.While a' b')) w'
-while_made m {w v w'} x {a} {a'} {b} {b'} at r0 r1 =
+while_made m {w} {v} {w'} x {a} {a'} {b} {b'} at r0 r1 =
     stmt_at m x (stmt_of (s.While a' b')) (StmtNode-F.While a b) (StmtNode-F.While a' b') (ap out-StmtNode (at ∙ sym (s.rolls-While a b)) ∙ out-roll-StmtNode (StmtNode-F.While a b)) (ap out-StmtNode (sym (s.rolls-While a' b')) ∙ out-roll-StmtNode (StmtNode-F.While a' b')) (below m)
-      refl (λ d. refl) (λ table frames h. h) (λ i. s.While (r0.same i) (r1.same i)) (λ c h. (r0.lawful c h.0, r1.lawful (loop_round c) h.1)) (two r0.part r1.part)
+    refl (λ d. refl) (λ table frames h. h) (λ i. s.While (r0.same i) (r1.same i)) (λ c h. (r0.lawful c h.0, r1.lawful (loop_round c) h.1)) (two r0.part r1.part)
 
 pub for_made : (m : ℕ) {w v u t w' : Walk} (x : Stmt) {a a' : ForStart} {b b' d d' : Option Expr} {f f' : Stmt} → x.node ≡ s.For a b d f → Resolves (start_kind m) w a a' v → Resolves (option_kind (expr_kind m)) v b b' u → Resolves (option_kind (expr_kind m)) u d d' t → Resolves (stmt_kind m) t f f' w' → Resolves (stmt_kind (suc m)) w x (stmt_of (s.For a' b' d' f')) w'
-for_made m {w v u t w'} x {a} {a'} {b} {b'} {d} {d'} {f} {f'} at r0 r1 r2 r3 =
+for_made m {w} {v} {u} {t} {w'} x {a} {a'} {b} {b'} {d} {d'} {f} {f'} at r0 r1 r2 r3 =
     stmt_at m x (stmt_of (s.For a' b' d' f')) (StmtNode-F.For a b d f) (StmtNode-F.For a' b' d' f') (ap out-StmtNode (at ∙ sym (s.rolls-For a b d f)) ∙ out-roll-StmtNode (StmtNode-F.For a b d f)) (ap out-StmtNode (sym (s.rolls-For a' b' d' f')) ∙ out-roll-StmtNode (StmtNode-F.For a' b' d' f')) (below m)
-      refl (λ d. refl) (λ table frames h. h) (λ i. s.For (r0.same i) (r1.same i) (r2.same i) (r3.same i)) (λ c h. (r0.lawful c h.0, r1.lawful c h.1, r2.lawful c h.2, r3.lawful (loop_round c) h.3)) (four r0.part r1.part r2.part r3.part)
+    refl (λ d. refl) (λ table frames h. h) (λ i. s.For (r0.same i) (r1.same i) (r2.same i) (r3.same i)) (λ c h. (r0.lawful c h.0, r1.lawful c h.1, r2.lawful c h.2, r3.lawful (loop_round c) h.3)) (four r0.part r1.part r2.part r3.part)
 
 pub for_in_made : (m : ℕ) {w v u w' : Walk} (x : Stmt) {a a' : ForTarget} {b b' : Expr} {f f' : Stmt} → x.node ≡ s.ForIn a b f → Resolves (target_kind m) w a a' v → Resolves (expr_kind m) v b b' u → Resolves (stmt_kind m) u f f' w' → Resolves (stmt_kind (suc m)) w x (stmt_of (s.ForIn a' b' f')) w'
-for_in_made m {w v u w'} x {a} {a'} {b} {b'} {f} {f'} at r0 r1 r2 =
+for_in_made m {w} {v} {u} {w'} x {a} {a'} {b} {b'} {f} {f'} at r0 r1 r2 =
     stmt_at m x (stmt_of (s.ForIn a' b' f')) (StmtNode-F.ForIn a b f) (StmtNode-F.ForIn a' b' f') (ap out-StmtNode (at ∙ sym (s.rolls-ForIn a b f)) ∙ out-roll-StmtNode (StmtNode-F.ForIn a b f)) (ap out-StmtNode (sym (s.rolls-ForIn a' b' f')) ∙ out-roll-StmtNode (StmtNode-F.ForIn a' b' f')) (below m)
-      refl (λ d. refl) (λ table frames h. h) (λ i. s.ForIn (r0.same i) (r1.same i) (r2.same i)) (λ c h. (r0.lawful c h.0, r1.lawful c h.1, r2.lawful (loop_round c) h.2)) (three r0.part r1.part r2.part)
+    refl (λ d. refl) (λ table frames h. h) (λ i. s.ForIn (r0.same i) (r1.same i) (r2.same i)) (λ c h. (r0.lawful c h.0, r1.lawful c h.1, r2.lawful (loop_round c) h.2)) (three r0.part r1.part r2.part)
 
 pub switch_made : (m : ℕ) {w v w' : Walk} (x : Stmt) {a a' : Expr} {ys zs : List Case} → x.node ≡ s.Switch a ys → Resolves (expr_kind m) w a a' v → Resolves (list_kind (case_kind m)) v ys zs w' → Resolves (stmt_kind (suc m)) w x (stmt_of (s.Switch a' zs)) w'
-switch_made m {w v w'} x {a} {a'} {ys} {zs} at r0 r1 =
+switch_made m {w} {v} {w'} x {a} {a'} {ys} {zs} at r0 r1 =
     stmt_at m x (stmt_of (s.Switch a' zs)) (StmtNode-F.Switch a ys) (StmtNode-F.Switch a' zs) (ap out-StmtNode (at ∙ sym (s.rolls-Switch a ys)) ∙ out-roll-StmtNode (StmtNode-F.Switch a ys)) (ap out-StmtNode (sym (s.rolls-Switch a' zs)) ∙ out-roll-StmtNode (StmtNode-F.Switch a' zs)) (below m)
-      refl (λ d. refl) (λ table frames h. h) (λ i. s.Switch (r0.same i) (r1.same i)) (λ c h. (r0.lawful c h.0, default_kept m ys zs r1.same h.1, r1.lawful (switch_round c) h.2)) (two r0.part r1.part)
+    refl (λ d. refl) (λ table frames h. h) (λ i. s.Switch (r0.same i) (r1.same i)) (λ c h. (r0.lawful c h.0, default_kept m ys zs r1.same h.1, r1.lawful (switch_round c) h.2)) (two r0.part r1.part)
 
 pub try_made : (m : ℕ) {w v u w' : Walk} (x : Stmt) {a a' : Stmt} {b b' : Option Catch} {d d' : Option Stmt} → x.node ≡ s.Try a b d → Resolves (stmt_kind m) w a a' v → Resolves (option_kind (catch_kind m)) v b b' u → Resolves (option_kind (stmt_kind m)) u d d' w' → Resolves (stmt_kind (suc m)) w x (stmt_of (s.Try a' b' d')) w'
-try_made m {w v u w'} x {a} {a'} {b} {b'} {d} {d'} at r0 r1 r2 =
+try_made m {w} {v} {u} {w'} x {a} {a'} {b} {b'} {d} {d'} at r0 r1 r2 =
     stmt_at m x (stmt_of (s.Try a' b' d')) (StmtNode-F.Try a b d) (StmtNode-F.Try a' b' d') (ap out-StmtNode (at ∙ sym (s.rolls-Try a b d)) ∙ out-roll-StmtNode (StmtNode-F.Try a b d)) (ap out-StmtNode (sym (s.rolls-Try a' b' d')) ∙ out-roll-StmtNode (StmtNode-F.Try a' b' d')) (below m)
-      refl (λ d. refl) (λ table frames h. h) (λ i. s.Try (r0.same i) (r1.same i) (r2.same i)) (λ c h. (block_kept m a a' r0.same h.0, r0.lawful c h.1, catch_or_finally (bare_catch (expr_bare m) (stmt_bare m) (declaration_bare m)) (stmt_bare m) b b' d d' r1.same r2.same h.2, r1.lawful c h.3, finally_kept m c d d' r2.same (r2.lawful c) h.4)) (three r0.part r1.part r2.part)
+    refl (λ d. refl) (λ table frames h. h) (λ i. s.Try (r0.same i) (r1.same i) (r2.same i)) (λ c h. (block_kept m a a' r0.same h.0, r0.lawful c h.1, catch_or_finally (bare_catch (expr_bare m) (stmt_bare m) (declaration_bare m)) (stmt_bare m) b b' d d' r1.same r2.same h.2, r1.lawful c h.3, finally_kept m c d d' r2.same (r2.lawful c) h.4)) (three r0.part r1.part r2.part)

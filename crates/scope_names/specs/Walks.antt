@@ -2,11 +2,12 @@
 use Rattle.std.specs.Prelude.{◌≡◌, ℕ, suc, ◌+◌, ◌≤◌, min, List, [], ◌∷◌, map, length, sum_by, slice_get, Option, Some, None, Result, IfOk}
 use Rattle.std.specs.Option.{option_map}
 use Rattle.std.specs.Borrow.{Bor}
+use Rattle.js_tree.specs.declared.Named.{Named}
 use Rattle.js_tree.specs.Trees.{number_of}
 use Rattle.js_tree.specs.Calls.{Code}
 use Rattle.js_tree.specs.Table.{Codes, all_in, if_there}
 use Rattle.js_tree.specs.Lawful.{Around, Each, IfThere}
-use Rattle.js_tree.specs.Binds.{FrameNames, Frames}
+use Rattle.js_tree.specs.Binds.{FrameNames, Frames, BindsTo}
 use Rattle.js_tree.specs.NameCount.{count_there}
 use Rattle.scope_names.specs.declared.walk.Walk.{Walk}
 use Rattle.scope_names.specs.declared.NoRoom.{NoRoom}
@@ -64,6 +65,18 @@ option_kind kind = record {
   bare = option_map kind.bare;
   Lawful = λ around. IfThere (kind.Lawful around);
 }
+
+-- The name with the place of its declaration.
+pub record NameBound (frames : Frames) (given made : Named) : Type 0 where
+  pub same : made.name ≡ given.name
+  pub bound : BindsTo frames made.name made.own made.binding
+
+-- The next number is taken.
+pub record Numbers (before : Walk) (number : ℕ) (after : Walk) : Type 0 where
+  pub taken : number ≡ before.next
+  pub scopes : after.scopes ≡ before.scopes
+  pub counted : after.names ≡ before.names
+  pub next : after.next ≡ suc before.next
 
 -- A frame more stands round the place.
 pub record Enters (before : Walk) (frame : FrameNames) (after : Walk) : Type 0 where

@@ -120,7 +120,12 @@ fn in_cases(alloc: Global, names: Names, left: u32, cases: &[Case]) -> Result<Na
 }
 
 #[cycle(hoist)]
-fn in_option(alloc: Global, names: Names, left: u32, stmt: &Option<Boxed<Stmt>>) -> Result<Names, NoRoom>
+fn in_option(
+    alloc: Global,
+    names: Names,
+    left: u32,
+    stmt: &Option<Boxed<Stmt>>,
+) -> Result<Names, NoRoom>
     ensures { IfOk result (λ made. made ≡ gathered names (gather_option (variables_to left) stmt.now)) }
 {
     match stmt {

@@ -1,9 +1,12 @@
 //! Binds the names of a script: each name gets the place of its declaration, each function its number.
 #![tactic(auto)]
 
+mod exprs;
 mod hoist;
 mod names;
+mod parts;
 mod scopes;
+mod stmts;
 mod walk;
 
 use std::alloc::{AllocError, AllocFailed};

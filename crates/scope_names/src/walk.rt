@@ -1,10 +1,12 @@
 //! What the walk over a script carries along.
-ghost use Rattle.std.specs.Prelude.{◌≡◌, ◌+◌, min, IfOk};
-ghost use Rattle.scope_names.specs.Walks.{Enters, LeavesFrame};
+ghost use Rattle.std.specs.Prelude.{◌≡◌, ◌+◌, min, IfOk, [], ◌∷◌};
+ghost use Rattle.scope_names.specs.Walks.{Enters, LeavesFrame, Numbers};
 
 use crate::NoRoom;
 use crate::names::Names;
 use crate::scopes::Scopes;
+use std::alloc::Global;
+use turk_base::Units;
 
 /// The frames round the place, the number of the next function, and the declared names so far.
 #[derive(Drop)]
@@ -31,6 +33,30 @@ impl Walk {
             next,
             names: added(before, count),
         })
+    }
+
+    /// Goes into a frame with one name.
+    pub fn enter_one(self, alloc: Global, name: &Units, own: bool) -> Result<Walk, NoRoom>
+        ensures { IfOk result (λ walk. Enters self (record { names = name.now ∷ []; own = own }) walk) }
+    {
+        let names = Names::new(alloc).add(alloc, name)?;
+        self.enter(names, own)
+    }
+
+    /// Takes the next number.
+    pub fn number(self) -> Result<(u32, Walk), NoRoom>
+        ensures { IfOk result (λ r. Numbers self r.0 r.1) }
+    {
+        let number = self.next;
+        let next = number.checked_add(1).ok_or(NoRoom)?;
+        Ok((
+            number,
+            Walk {
+                scopes: self.scopes,
+                next,
+                names: self.names,
+            },
+        ))
     }
 
     /// Leaves the innermost frame.

@@ -9,4 +9,4 @@ use Rattle.scope_names.proofs.hoist.frame_names.Goals as goal
 pub returns : goal.returns
 returns c =
     frame_gathered c.in_all.result _ _ c.args.parameters.now (map declared_name (functions_of c.args.body.now)) (variables (statements_of c.args.body.now)) (map declared_name c.functions.result.now) (gather (variables_to 200) c.statements.result.now)
-      (c.in_ok-names.ensures ∙ ap (λ ns. gathered ns c.args.parameters.now) c.new.ensures) c.in_ok-names-2.ensures (ap (map declared_name) c.functions.ensures) (ap (gather (variables_to 200)) c.statements.ensures) c.in_all.ensures
+    (c.in_ok-names.ensures ∙ ap (λ ns. gathered ns c.args.parameters.now) c.new.ensures) c.in_ok-names-2.ensures (ap (map declared_name) c.functions.ensures) (ap (gather (variables_to 200)) c.statements.ensures) c.in_all.ensures

@@ -7,4 +7,4 @@ use Rattle.scope_names.proofs.hoist.named.Goals as goal
 pub loop-variable-preserved : goal.loop-variable-preserved
 loop-variable-preserved c =
     c.in_ok-all.ensures ∙ ap (λ l. with_name l (out-Variable c.variable-item.result).named.name) c.loop-variable.invariant
-      ∙ map_next (λ (x : Variable). (out-Variable x).named.name) _ _ _ _ c.loop-variable-test.true c.variable-item.is
+    ∙ map_next (λ (x : Variable). (out-Variable x).named.name) _ _ _ _ c.loop-variable-test.true c.variable-item.is

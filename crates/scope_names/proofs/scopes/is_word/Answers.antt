@@ -8,12 +8,12 @@ returns-then-units-word c = apart_long c.args.word.now c.args.name.now (λ e. c.
 pub returns-then-word-at : goal.returns-then-word-at
 returns-then-word-at c =
     differ_at c.args.word.now c.args.name.now c.loop-at.at c.loop-at-test.true (sym (ap length c.as_slice-units.ensures) ∙ c.if-units-word.false)
-      (λ e. c.if-word-at.true (e ∙ ap (λ s. get_or s c.loop-at.at 0) (sym c.as_slice-units.ensures))) c.loop-at.invariant
+    (λ e. c.if-word-at.true (e ∙ ap (λ s. get_or s c.loop-at.at 0) (sym c.as_slice-units.ensures))) c.loop-at.invariant
 
 pub loop-at-preserved : goal.loop-at-preserved
 loop-at-preserved c =
     same_next c.args.word.now c.args.name.now c.loop-at.at c.loop-at-test.true (sym (ap length c.as_slice-units.ensures) ∙ c.if-units-word.false)
-      (c.if-word-at.false ∙ ap (λ s. get_or s c.loop-at.at 0) c.as_slice-units.ensures) c.loop-at.invariant
+    (c.if-word-at.false ∙ ap (λ s. get_or s c.loop-at.at 0) c.as_slice-units.ensures) c.loop-at.invariant
 
 pub returns : goal.returns
 returns c =

@@ -19,10 +19,12 @@ pub returns-then-is_built_in : goal.returns-then-is_built_in
 returns-then-is_built_in c = (
   λ k f at. (let within : k < length c.args.frames.now = shown_within c.args.frames.now k f at in c.loop-out.invariant k f (omega arith) at),
   sym c.is_built_in.ensures ∙ c.if-is_built_in.true,
-  refl)
+  refl,
+)
 
 pub returns-else-is_built_in : goal.returns-else-is_built_in
 returns-else-is_built_in c = (
   λ k f at. (let within : k < length c.args.frames.now = shown_within c.args.frames.now k f at in c.loop-out.invariant k f (omega arith) at),
   sym c.is_built_in.ensures ∙ c.if-is_built_in.false,
-  refl)
+  refl,
+)
