@@ -3,12 +3,14 @@ use Rattle.std.specs.Prelude.{◌≡◌, ℕ, suc, ◌+◌, ◌≤◌, min, List
 use Rattle.std.specs.Option.{option_map}
 use Rattle.std.specs.Borrow.{Bor}
 use Rattle.js_tree.specs.declared.Named.{Named}
+use Rattle.js_tree.specs.declared.Script.{Script}
 use Rattle.js_tree.specs.Trees.{number_of}
 use Rattle.js_tree.specs.Calls.{Code}
 use Rattle.js_tree.specs.Table.{Codes, all_in, if_there}
-use Rattle.js_tree.specs.Lawful.{Around, Each, IfThere}
-use Rattle.js_tree.specs.Binds.{FrameNames, Frames, BindsTo}
-use Rattle.js_tree.specs.NameCount.{count_there}
+use Rattle.js_tree.specs.Lawful.{Around, Each, IfThere, LawfulScript}
+use Rattle.js_tree.specs.Binds.{FrameNames, Frames, BindsTo, IsBound}
+use Rattle.js_tree.specs.Bare.{bare}
+use Rattle.js_tree.specs.NameCount.{count_there, declared_count}
 use Rattle.scope_names.specs.declared.walk.Walk.{Walk}
 use Rattle.scope_names.specs.declared.NoRoom.{NoRoom}
 use Rattle.scope_names.specs.Gathered.{collected}
@@ -94,3 +96,10 @@ pub record LeavesFrame (before after : Walk) : Type 0 where
 pub record Makes {A : Type 0} (kind : ℕ → Kind A) (left : ℕ) (pre : Walk → ℕ → Bor A → Type 0) (post : Walk → ℕ → Bor A → Result (A × Walk) NoRoom → Type 0) : Type 0 where
   pub callable : (walk : Walk) (given : Bor A) → pre walk left given
   pub makes : (walk : Walk) (given : Bor A) (r : Result (A × Walk) NoRoom) → post walk left given r → IfOk r (λ made. Resolves (kind left) walk given.now made.0 made.1)
+
+-- The names of a script were bound, and so many are declared, where more than 65,536 aren't told apart.
+pub record ScriptBound (given made : Script) (names : ℕ) : Type 0 where
+  pub bound : IsBound made
+  pub same : bare made ≡ bare given
+  pub lawful : LawfulScript given → LawfulScript made
+  pub counted : min names 65536 ≡ min (declared_count given) 65536

@@ -11,6 +11,7 @@ use turk_base::Units;
 /// The frames round the place, the number of the next function, and the declared names so far.
 #[derive(Drop)]
 pub struct Walk {
+    pub alloc: Global,
     pub scopes: Scopes,
     pub next: u32,
     pub names: u32,
@@ -23,12 +24,14 @@ impl Walk {
     {
         let count = names.len();
         let Walk {
+            alloc,
             scopes,
             next,
             names: before,
         } = self;
         let scopes = scopes.enter(names, own)?;
         Ok(Walk {
+            alloc,
             scopes,
             next,
             names: added(before, count),
@@ -52,6 +55,7 @@ impl Walk {
         Ok((
             number,
             Walk {
+                alloc: self.alloc,
                 scopes: self.scopes,
                 next,
                 names: self.names,
@@ -64,6 +68,7 @@ impl Walk {
         ensures { LeavesFrame self result }
     {
         Walk {
+            alloc: self.alloc,
             scopes: self.scopes.leave(),
             next: self.next,
             names: self.names,
