@@ -197,3 +197,9 @@ pub delete_made : (m : ℕ) {w v w' : Walk} (x : Expr) {a b : Expr} {k l : Key} 
 delete_made m {w} {v} {w'} x {a} {b} {k} {l} at r0 r1 =
     expr_at m x (expr_of (e.Delete b l)) (ExprNode-F.Delete a k) (ExprNode-F.Delete b l) (ap out-ExprNode (at ∙ sym (e.rolls-Delete a k)) ∙ out-roll-ExprNode (ExprNode-F.Delete a k)) (ap out-ExprNode (sym (e.rolls-Delete b l)) ∙ out-roll-ExprNode (ExprNode-F.Delete b l)) (below m)
     refl (λ d. refl) (λ table frames h. h) (λ i. e.Delete (r0.same i) (r1.same i)) (λ h. (r0.lawful around_script h.0, r1.lawful around_script h.1)) (two r0.part r1.part)
+
+pub literal_made : (m : ℕ) {w : Walk} (x : Expr) {l k : Literal} → x.node ≡ e.Literal l → k ≡ l → Resolves (expr_kind (suc m)) w x (expr_of (e.Literal k)) w
+literal_made m {w} x {l} {k} at same =
+    subst (λ z. Resolves (expr_kind (suc m)) w x (expr_of (e.Literal z)) w) (sym same)
+      (expr_at m x (expr_of (e.Literal l)) (ExprNode-F.Literal l) (ExprNode-F.Literal l) (ap out-ExprNode (at ∙ sym (e.rolls-Literal l)) ∙ out-roll-ExprNode (ExprNode-F.Literal l)) (ap out-ExprNode (sym (e.rolls-Literal l)) ∙ out-roll-ExprNode (ExprNode-F.Literal l)) (below m)
+        refl (λ d. refl) (λ table frames h. h) refl (λ h. h) (none w (m + m)))

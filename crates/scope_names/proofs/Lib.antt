@@ -7,3 +7,5 @@ pub mod BindLemmas
 pub mod StmtParts
 pub mod OtherParts
 pub mod FrameParts
+pub mod ScriptParts
+pub mod TurnedParts
