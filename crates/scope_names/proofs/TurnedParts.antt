@@ -1,6 +1,6 @@
 -- What a part of the walk did, said of equal trees and frames.
-use Rattle.std.specs.Prelude.{Bool, ℕ, ◌≡◌, refl, List, [], ◌∷◌, Option, Some, None, Result, Ok, Err, IfOk}
-use Rattle.std.proofs.Common.{ap, sym, ◌∙◌, subst}
+use Rattle.std.specs.Prelude.{Bool, ℕ, zero, suc, ◌-◌, ◌≡◌, refl, List, [], ◌∷◌, Option, Some, None, Result, Ok, Err, IfOk}
+use Rattle.std.proofs.Common.{arith, ap, sym, ◌∙◌, subst}
 use Rattle.js_tree.specs.declared.Expr.{Expr}
 use Rattle.js_tree.specs.declared.Stmt.{Stmt}
 use Rattle.js_tree.specs.declared.Script.{Script}
@@ -40,3 +40,8 @@ frame_same e f = λ i. record { names = e i; own = f i }
 
 pub body_turned : (m : ℕ) {w w' : Walk} {ps qs : List Units} {x y z : Script} → ps ≡ qs → x ≡ y → Resolves (body_kind m ps) w x z w' → Resolves (body_kind m qs) w y z w'
 body_turned m {w} {w'} {ps} {qs} {x} {y} {z} e f r = subst (λ a. Resolves (body_kind m qs) w a z w') f (subst (λ a. Resolves (body_kind m a) w x z w') e r)
+
+-- one level more and one less
+pub level_back : (n : ℕ) → (n ≡ 0 → ⊥) → suc (n - 1) ≡ n
+level_back zero h = absurd (h refl)
+level_back (suc n) h = omega arith
