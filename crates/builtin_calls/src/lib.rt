@@ -7,12 +7,16 @@ use value_cells::OpStop;
 mod arrays;
 mod calls;
 mod errors;
+mod plain_heap;
 mod steps;
+#[cfg(test)]
+mod heap_tests;
 #[cfg(test)]
 mod tests;
 mod texts;
 
 pub use calls::call;
+pub use plain_heap::PlainHeap;
 
 /// Why a built-in call ended the run or throws: an error with its kind, 0 for TypeError and 1 for
 /// ReferenceError, and its message; a number that isn't whole or isn't in range, an object where a
