@@ -137,3 +137,19 @@ misses_word {n} {b} word r {ts} {h} {e} q = elim q [
   | inl x ↦ peeks_end x.0 x.1
   | inr x ↦ peeks x.2 (no (eat r) x.3 (refuses x.2 x.4))
 ]
+
+-- the tokens begin with this one
+pub at : {n : Symbol} {b : ℕ} {r : Rule n} {ts rest : List Token} {t : Token} {h : ℕ} {o : Outcome n} → ts ≡ t ∷ rest → Has n b r (t ∷ rest) h o → Has n b r ts h o
+at {n} {b} {r} {h = h} {o = o} e w = subst (λ x. Has n b r x h o) (sym e) w
+
+-- what one rule answers, another does
+pub onward : {n : Symbol} {b : ℕ} {r s : Rule n} {ts us : List Token} (result : Result (Value n × ℕ × Bor (List Token)) Stop) → ((o : Outcome n) → Has n b r ts 0 o → Has n b s us 0 o) → Follows n b r ts result → Follows n b s us result
+onward (Ok x) f g = row (f _ (has g (sym (raise_zero _))))
+onward (Err e) f g = λ not. row (f _ (has (g not) refl))
+
+-- the row by which a row goes on that looks at this token
+pub unpeeks : {n : Symbol} {b : ℕ} {f : Token → Rule n} {t : Token} {ts rest : List Token} {h : ℕ} {o : Outcome n} → ts ≡ t ∷ rest → Has n b (peek f) ts h o → Has n b (f t) ts h o
+unpeeks {n} {b} {f} {t} {ts} {rest} {h} {o} e w = subst (λ x. Has n b (f t) x h o) (sym e) (go (subst (λ x. Has n b (peek f) x h o) e w))
+  where
+    go : Has n b (peek f) (t ∷ rest) h o → Has n b (f t) (t ∷ rest) h o
+    go (has (peeked g) q) = has g q

@@ -5,11 +5,14 @@ use Rattle.js_lexer.specs.declared.Mark.TheVariants as m
 use Rattle.js_parser.specs.declared.stop.Stop.{Stop}
 use Rattle.js_parser.specs.Words.{Units, is, is_end}
 use Rattle.js_parser.specs.Rules.{Symbol, Value, Rule, Done, Outcome}
-use Rattle.js_parser.specs.Rules.Symbol.{Names}
+use Rattle.js_tree.specs.declared.Expr as expr
+use Rattle.js_tree.specs.declared.Field as field
+use Rattle.js_parser.specs.declared.classes.Operand.{Operand}
+use Rattle.js_parser.specs.Rules.Symbol.{Names, Assign, Arguments, Items, Fields}
 use Rattle.js_parser.specs.Rules.Rule.{give}
 use Rattle.js_parser.specs.Grammar.{grammar}
 use Rattle.js_parser.specs.Goes.{Goes}
-use Rattle.js_parser.specs.Meets.{Has, Continues, TookName, MissesName}
+use Rattle.js_parser.specs.Meets.{Has, Continues, TookName, TookItem, after_argument, after_element, after_field}
 use Rattle.js_parser.proofs.Along.{row, gives, peeks, peeks_end, eats, passes_level, fails_level, yes, no}
 use Rattle.js_parser.proofs.Generic.{shorter}
 use Rattle.js_parser.proofs.Tokens.{live_mark}
@@ -30,3 +33,56 @@ module _ {b : ℕ} {so_far : List Units} {one : Units} {ts all rest after : List
 
   pub smaller_names : length after < length ts
   smaller_names = omega (arith, ap length next, name_shorter took)
+
+-- ---- lists in parentheses, brackets and braces
+
+abbrev pub SoArguments : ℕ → List expr.Expr → ℕ → List Token → List Token → Type 0
+SoArguments b so_far tall ts all = Continues (List expr.Expr) b (Arguments so_far) (Arguments []) (λ v. v) (λ v. v) tall ts all
+
+module _ {b tall height : ℕ} {so_far : List expr.Expr} {one : expr.Expr} {ts all rest : List Token} {follows : Bool}
+    (turn : SoArguments b so_far tall ts all) (took : TookItem Arguments after_argument b ts one height follows rest) where
+  pub again_arguments : follows ≡ true → (more : List expr.Expr) (high : ℕ) → more ≡ so_far ++ one ∷ [] → high ≡ max tall height → SoArguments b more high rest all
+  again_arguments f more high e q = subst (λ x. SoArguments b x high rest all) (sym e) (subst (λ x. SoArguments b (so_far ++ one ∷ []) x rest all) (sym q) (record {
+    reads = λ v h left g. subst (λ x. Goes 200 (Arguments []) b (grammar (Arguments [])) all (Ok record { value = v; height = x; rest = left })) (omega arith)
+        (turn.reads v (max height h) left (row (took.row so_far 0 _ (yes _ f (passes_level g (gives refl (omega arith)))))));
+    stops = λ e g. turn.stops e (row (took.row so_far 0 _ (yes _ f (fails_level g))));
+  }))
+
+  pub last_arguments : follows ≡ false → (more : List expr.Expr) (high : ℕ) → more ≡ so_far ++ one ∷ [] → high ≡ max tall height
+      → Goes 200 (Arguments []) b (grammar (Arguments [])) all (Ok record { value = more; height = high; rest = rest })
+  last_arguments f more high e q = subst (λ x. Goes 200 (Arguments []) b (grammar (Arguments [])) all (Ok record { value = more; height = x; rest = rest })) (sym q)
+      (turn.reads more height rest (row (took.row so_far 0 _ (no _ f (gives e (omega arith))))))
+
+abbrev pub SoItems : ℕ → List expr.Expr → ℕ → List Token → List Token → Type 0
+SoItems b so_far tall ts all = Continues (List expr.Expr) b (Items so_far) (Items []) (λ v. v) (λ v. v) tall ts all
+
+module _ {b tall height : ℕ} {so_far : List expr.Expr} {one : expr.Expr} {ts all rest : List Token} {follows : Bool}
+    (turn : SoItems b so_far tall ts all) (took : TookItem Items after_element b ts one height follows rest) where
+  pub again_items : follows ≡ true → (more : List expr.Expr) (high : ℕ) → more ≡ so_far ++ one ∷ [] → high ≡ max tall height → SoItems b more high rest all
+  again_items f more high e q = subst (λ x. SoItems b x high rest all) (sym e) (subst (λ x. SoItems b (so_far ++ one ∷ []) x rest all) (sym q) (record {
+    reads = λ v h left g. subst (λ x. Goes 200 (Items []) b (grammar (Items [])) all (Ok record { value = v; height = x; rest = left })) (omega arith)
+        (turn.reads v (max height h) left (row (took.row so_far 0 _ (yes _ f (passes_level g (gives refl (omega arith)))))));
+    stops = λ e g. turn.stops e (row (took.row so_far 0 _ (yes _ f (fails_level g))));
+  }))
+
+  pub last_items : follows ≡ false → (more : List expr.Expr) (high : ℕ) → more ≡ so_far ++ one ∷ [] → high ≡ max tall height
+      → Goes 200 (Items []) b (grammar (Items [])) all (Ok record { value = more; height = high; rest = rest })
+  last_items f more high e q = subst (λ x. Goes 200 (Items []) b (grammar (Items [])) all (Ok record { value = more; height = x; rest = rest })) (sym q)
+      (turn.reads more height rest (row (took.row so_far 0 _ (no _ f (gives e (omega arith))))))
+
+abbrev pub SoFields : ℕ → List field.Field → ℕ → List Token → List Token → Type 0
+SoFields b so_far tall ts all = Continues (List field.Field) b (Fields so_far) (Fields []) (λ v. v) (λ v. v) tall ts all
+
+module _ {b tall height : ℕ} {so_far : List field.Field} {one : field.Field} {ts all rest : List Token} {follows : Bool}
+    (turn : SoFields b so_far tall ts all) (took : TookItem Fields after_field b ts one height follows rest) where
+  pub again_fields : follows ≡ true → (more : List field.Field) (high : ℕ) → more ≡ so_far ++ one ∷ [] → high ≡ max tall height → SoFields b more high rest all
+  again_fields f more high e q = subst (λ x. SoFields b x high rest all) (sym e) (subst (λ x. SoFields b (so_far ++ one ∷ []) x rest all) (sym q) (record {
+    reads = λ v h left g. subst (λ x. Goes 200 (Fields []) b (grammar (Fields [])) all (Ok record { value = v; height = x; rest = left })) (omega arith)
+        (turn.reads v (max height h) left (row (took.row so_far 0 _ (yes _ f (passes_level g (gives refl (omega arith)))))));
+    stops = λ e g. turn.stops e (row (took.row so_far 0 _ (yes _ f (fails_level g))));
+  }))
+
+  pub last_fields : follows ≡ false → (more : List field.Field) (high : ℕ) → more ≡ so_far ++ one ∷ [] → high ≡ max tall height
+      → Goes 200 (Fields []) b (grammar (Fields [])) all (Ok record { value = more; height = high; rest = rest })
+  last_fields f more high e q = subst (λ x. Goes 200 (Fields []) b (grammar (Fields [])) all (Ok record { value = more; height = x; rest = rest })) (sym q)
+      (turn.reads more height rest (row (took.row so_far 0 _ (no _ f (gives e (omega arith))))))

@@ -54,6 +54,10 @@ plain expr = record { expr = expr; target = false }
 abbrev pub a_member : expr.Expr → key.Key → Operand
 a_member base key = record { expr = e.Member base key; target = true }
 
+-- an expression that is a target as written
+abbrev pub a_target : expr.Expr → Operand
+a_target expr = record { expr = expr; target = true }
+
 abbrev pub a_name_as : Units → Operand
 a_name_as units = record { expr = e.Name units; target = true }
 

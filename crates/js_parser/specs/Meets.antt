@@ -1,8 +1,9 @@
 -- What the functions of the parser answer.
-use Rattle.std.specs.Prelude.{◌≡◌, ◌≢◌, ℕ, ◌+◌, max, ◌≤◌, Bool, true, false, List, [], ◌∷◌, Result, Ok, Err, Option, Some, None, ◌⊎◌, ◌<◌, IfOk}
+use Rattle.std.specs.Prelude.{◌≡◌, ◌≢◌, ℕ, ◌+◌, max, ◌≤◌, Bool, true, false, List, [], ◌∷◌, ◌++◌, Result, Ok, Err, Option, Some, None, ◌⊎◌, ◌<◌, IfOk, length}
 use Rattle.std.specs.Borrow.{Bor}
 use Rattle.std.specs.declared.alloc.Global.{Global}
 use Rattle.js_lexer.specs.declared.Mark.{Mark}
+use Rattle.js_lexer.specs.declared.Mark.TheVariants as m
 use Rattle.js_lexer.specs.declared.Reserved.{Reserved}
 use Rattle.js_lexer.specs.declared.Token.{Token}
 use Rattle.js_tree.specs.declared.Expr as expr
@@ -14,10 +15,12 @@ use Rattle.js_parser.specs.declared.Form.{Form}
 use Rattle.js_parser.specs.declared.classes.Lead.{Lead}
 use Rattle.js_parser.specs.declared.classes.Lead.TheVariants as lead
 use Rattle.js_parser.specs.declared.classes.Operand.{Operand}
-use Rattle.js_parser.specs.Words.{Units, is, is_word, fault, form_at}
+use Rattle.js_parser.specs.Words.{Units, is, is_word, is_end, fault, form_at}
 use Rattle.js_parser.specs.Rules.{Context, Symbol, Value, Rule, Done, Outcome}
-use Rattle.js_parser.specs.Rules.Symbol.{Assign, Elements, Expr, Statement}
-use Rattle.js_parser.specs.Grammar.{grammar, a_name, parameters, function, given_at}
+use Rattle.js_tree.specs.declared.Field as field
+use Rattle.js_parser.specs.Rules.Rule.{give, node, peek, read}
+use Rattle.js_parser.specs.Rules.Symbol.{Arguments, Assign, Elements, Expr, Fields, Items, Primary, Statement}
+use Rattle.js_parser.specs.Grammar.{grammar, a_name, as_read, either, expect, go_on, parameters, function, given_at}
 use Rattle.js_parser.specs.Goes.{Goes, raise}
 
 -- ---- a row, and what is left of it
@@ -87,6 +90,52 @@ pub record TookArguments (b k : ℕ) (ts : List Token) (all : List expr.Expr) (h
 
 pub record MissesArguments (b k : ℕ) (ts : List Token) (e : Stop) : Type 0 where
   pub row : (n : Symbol) (h : ℕ) (rule : List expr.Expr → ℕ → Rule n) → Has n b (given_at k rule) ts h (Err e)
+
+-- an expression and what closes it, where the expression is one deeper
+pub record TookEnclosed (close : Mark) (b : ℕ) (ts : List Token) (value : Operand) (height : ℕ) (rest : List Token) : Type 0 where
+  pub row : (n : Symbol) (h : ℕ) (rule : Operand → ℕ → Rule n) (o : Outcome n) → Has n b (rule value height) rest (max h (1 + height)) o
+      → Has n b (read 1 (Expr false) (λ v i. expect close (rule v i))) ts h o
+
+pub record MissesEnclosed (close : Mark) (b : ℕ) (ts : List Token) (e : Stop) : Type 0 where
+  pub row : (n : Symbol) (h : ℕ) (rule : Operand → ℕ → Rule n) → Has n b (read 1 (Expr false) (λ v i. expect close (rule v i))) ts h (Err e)
+
+-- an item of a list, and whether another one follows; the tokens are those from there on
+pub record TookItem {A : Type 0} (S : List A → Symbol) (after : (so_far : List A) → A → Bool → Rule (S so_far)) (b : ℕ) (ts : List Token) (one : A) (height : ℕ) (more : Bool) (rest : List Token) : Type 0 where
+  pub row : (so_far : List A) (h : ℕ) (o : Outcome (S so_far)) → Has (S so_far) b (after so_far one more) rest (max h height) o → Has (S so_far) b (grammar (S so_far)) ts h o
+  pub shorter : more ≡ true → length rest < length ts
+
+pub record MissesItem {A : Type 0} (S : List A → Symbol) (b : ℕ) (ts : List Token) (e : Stop) : Type 0 where
+  pub row : (so_far : List A) (h : ℕ) → Has (S so_far) b (grammar (S so_far)) ts h (Err e)
+
+abbrev pub after_argument : (so_far : List expr.Expr) → expr.Expr → Bool → Rule (Arguments so_far)
+after_argument so_far one more = either more (as_read (Arguments (so_far ++ one ∷ [])) (λ all. all)) (give (so_far ++ one ∷ []))
+
+abbrev pub after_element : (so_far : List expr.Expr) → expr.Expr → Bool → Rule (Items so_far)
+after_element so_far one more = either more (as_read (Items (so_far ++ one ∷ [])) (λ all. all)) (give (so_far ++ one ∷ []))
+
+abbrev pub after_field : (so_far : List field.Field) → field.Field → Bool → Rule (Fields so_far)
+after_field so_far one more = either more (as_read (Fields (so_far ++ one ∷ [])) (λ x. x)) (give (so_far ++ one ∷ []))
+
+-- what follows an element of an array literal
+abbrev pub element_goes_on : (so_far : List expr.Expr) → expr.Expr → Rule (Items so_far)
+element_goes_on so_far one = go_on (peek (λ u. either (is m.CloseBracket u) (give (so_far ++ one ∷ [])) (as_read (Items (so_far ++ one ∷ [])) (λ all. all)))) (give (so_far ++ one ∷ []))
+
+pub record TookElementEnd (ts : List Token) (more : Bool) (rest : List Token) : Type 0 where
+  pub row : (so_far : List expr.Expr) (one : expr.Expr) (b h : ℕ) (o : Outcome (Items so_far)) → Has (Items so_far) b (after_element so_far one more) rest h o → Has (Items so_far) b (element_goes_on so_far one) ts h o
+  pub shorter : more ≡ true → length rest < length ts
+
+pub record MissesElementEnd (ts : List Token) (e : Stop) : Type 0 where
+  pub row : (so_far : List expr.Expr) (one : expr.Expr) (b h : ℕ) → Has (Items so_far) b (element_goes_on so_far one) ts h (Err e)
+
+-- ---- after the token with which a node stands
+
+-- what a function answers after a token that the rule takes
+abbrev pub After : (n : Symbol) → ℕ → Rule n → List Token → Result (Value n × ℕ × Bor (List Token)) Stop → Type 0
+After n b rule ts r = (t : Token) → is_end t ≡ false → Follows n b rule (t ∷ ts) r
+
+-- a node with nothing in it
+abbrev pub Leaf : Operand → Rule Primary
+Leaf made = node 1 (give made)
 
 -- ---- functions that read what stands at this depth or deeper
 

@@ -4,7 +4,10 @@
 pub mod classes;
 mod classify;
 mod deeper;
+mod expressions;
 pub mod laws;
+mod lists;
+mod makers;
 mod steps;
 pub mod stop;
 
