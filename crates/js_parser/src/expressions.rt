@@ -73,7 +73,8 @@ impl<
                 if !is(Mark::Comma, token) {
                     return Ok((left, 0, tokens));
                 }
-                if base + height >= LIMIT {
+                let deep = base + height;
+                if deep == LIMIT {
                     expr(left.expr);
                     return Err(Stop::Nesting);
                 }

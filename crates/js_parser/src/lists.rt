@@ -2,7 +2,7 @@
 
 ghost use Rattle.std.specs.Prelude.{◌≤◌, ◌+◌, ◌≢◌, [], IfOk, MatchResult};
 ghost use Rattle.js_parser.specs.Meets.{Assigns, Meets, TookArguments, MissesArguments, TookItem, MissesItem, after_argument, after_element, after_field, TookElementEnd, MissesElementEnd};
-ghost use Rattle.js_parser.specs.Rules.Symbol as symbol;
+ghost use Rattle.js_parser.specs.Rules.Symbol.{Arguments, Items as Elements, Fields};
 ghost use Rattle.js_parser.specs.declared.stop.Stop.TheVariants.{Memory};
 
 use crate::Form;
@@ -31,7 +31,7 @@ impl<
         requires assigns { Assigns self.now.depth (F.pre self.now.assign) (F.post self.now.assign) }
         requires depth { self.now.depth ≤ base }
         requires base { base ≤ 200 }
-        ensures item { MatchResult result (λ r. TookItem symbol.Arguments after_argument base tokens.now r.0 r.1 r.2 r.3.now) (λ e. e ≢ Memory → MissesItem symbol.Arguments base tokens.now e) }
+        ensures item { MatchResult result (λ r. TookItem Arguments after_argument base tokens.now r.0 r.1 r.2 r.3.now) (λ e. e ≢ Memory → MissesItem Arguments base tokens.now e) }
         ensures small { IfOk result (λ r. base + r.1 ≤ 200) }
     {
         let (one, height, rest) = self.deeper(false, base, tokens)?;
@@ -55,7 +55,7 @@ impl<
         requires assigns { Assigns self.now.depth (F.pre self.now.assign) (F.post self.now.assign) }
         requires depth { self.now.depth ≤ base }
         requires base { base ≤ 200 }
-        ensures meets { Meets (symbol.Arguments []) base tokens.now result }
+        ensures meets { Meets (Arguments []) base tokens.now result }
         ensures small { IfOk result (λ r. base + r.1 ≤ 200) }
     {
         let mut all = Items::new(self.alloc);
@@ -106,7 +106,7 @@ impl<
         requires assigns { Assigns self.now.depth (F.pre self.now.assign) (F.post self.now.assign) }
         requires depth { self.now.depth ≤ base }
         requires base { base ≤ 200 }
-        ensures item { MatchResult result (λ r. TookItem symbol.Items after_element base tokens.now r.0 r.1 r.2 r.3.now) (λ e. e ≢ Memory → MissesItem symbol.Items base tokens.now e) }
+        ensures item { MatchResult result (λ r. TookItem Elements after_element base tokens.now r.0 r.1 r.2 r.3.now) (λ e. e ≢ Memory → MissesItem Elements base tokens.now e) }
         ensures small { IfOk result (λ r. base + r.1 ≤ 200) }
     {
         let (token, _) = first(tokens)?;
@@ -128,7 +128,7 @@ impl<
         requires assigns { Assigns self.now.depth (F.pre self.now.assign) (F.post self.now.assign) }
         requires depth { self.now.depth ≤ base }
         requires base { base ≤ 200 }
-        ensures meets { Meets (symbol.Items []) base tokens.now result }
+        ensures meets { Meets (Elements []) base tokens.now result }
         ensures small { IfOk result (λ r. base + r.1 ≤ 200) }
     {
         let mut all = Items::new(self.alloc);
@@ -157,7 +157,7 @@ impl<
         requires assigns { Assigns self.now.depth (F.pre self.now.assign) (F.post self.now.assign) }
         requires depth { self.now.depth ≤ base }
         requires base { base ≤ 200 }
-        ensures item { MatchResult result (λ r. TookItem symbol.Fields after_field base tokens.now r.0 r.1 r.2 r.3.now) (λ e. e ≢ Memory → MissesItem symbol.Fields base tokens.now e) }
+        ensures item { MatchResult result (λ r. TookItem Fields after_field base tokens.now r.0 r.1 r.2 r.3.now) (λ e. e ≢ Memory → MissesItem Fields base tokens.now e) }
         ensures small { IfOk result (λ r. base + r.1 ≤ 200) }
     {
         let (token, rest) = first(tokens)?;
@@ -188,7 +188,7 @@ impl<
         requires assigns { Assigns self.now.depth (F.pre self.now.assign) (F.post self.now.assign) }
         requires depth { self.now.depth ≤ base }
         requires base { base ≤ 200 }
-        ensures meets { Meets (symbol.Fields []) base tokens.now result }
+        ensures meets { Meets (Fields []) base tokens.now result }
         ensures small { IfOk result (λ r. base + r.1 ≤ 200) }
     {
         let mut all = Items::new(self.alloc);

@@ -6,7 +6,7 @@ use Rattle.js_parser.specs.Meets.{TookItem, MissesItem, after_argument}
 use Rattle.js_parser.proofs.Along.{peeks, peeks_end, eats, yes, no, passes_level, fails_level, handed_on}
 use Rattle.js_parser.proofs.Generic.{shorter}
 use Rattle.js_parser.proofs.Tokens.{live_mark}
-use Rattle.js_parser.proofs.lists.Grammar.argument.Goals as goal
+use Rattle.js_parser.proofs.deeper.Grammar.argument.Goals as goal
 
 pub returns-in_err-one-clause-item : goal.returns-in_err-one-clause-item
 returns-in_err-one-clause-item g c = handed_on (λ r. TookItem Arguments after_argument c.args.base c.args.tokens.now r.0 r.1 r.2 r.3.now) (λ e. e ≢ Memory → MissesItem Arguments c.args.base c.args.tokens.now e)

@@ -1,6 +1,6 @@
 use Rattle.std.proofs.Common.{◌+◌, ◌≤◌, length}
 use Rattle.js_parser.proofs.Repeated.{SoFields}
-use Rattle.js_parser.proofs.lists.Grammar.fields.Given as goal
+use Rattle.js_parser.proofs.deeper.Grammar.fields.Given as goal
 
 abbrev pub invariant-loop-all : goal.invariant-loop-all
 invariant-loop-all g l = record { so_far : SoFields l.base l.all l.tall l.left l.tokens; small : l.base + l.tall ≤ 200 }

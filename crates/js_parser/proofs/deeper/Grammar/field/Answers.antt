@@ -7,7 +7,7 @@ use Rattle.js_parser.specs.Meets.{TookItem, MissesItem, after_field}
 use Rattle.js_parser.proofs.Along.{peeks, peeks_end, eats, by, refuses, yes, no, passes_level, fails_level, expects, misses, handed_on}
 use Rattle.js_parser.proofs.Generic.{shorter}
 use Rattle.js_parser.proofs.Tokens.{live_literal_key, live_mark}
-use Rattle.js_parser.proofs.lists.Grammar.field.Goals as goal
+use Rattle.js_parser.proofs.deeper.Grammar.field.Goals as goal
 
 pub returns-in_err-token-clause-item : goal.returns-in_err-token-clause-item
 returns-in_err-token-clause-item g c = handed_on (λ r. TookItem Fields after_field c.args.base c.args.tokens.now r.0 r.1 r.2 r.3.now) (λ e. e ≢ Memory → MissesItem Fields c.args.base c.args.tokens.now e)

@@ -2,7 +2,7 @@ use Rattle.std.proofs.Common.{◌≢◌, refl, arith}
 use Rattle.js_parser.specs.Grammar.{grammar}
 use Rattle.js_parser.specs.Rules.Symbol.{Expr}
 use Rattle.js_parser.proofs.Along.{row, gives, passes_level, fails_level, handed}
-use Rattle.js_parser.proofs.expressions.Grammar.expression.Goals as goal
+use Rattle.js_parser.proofs.deeper.Grammar.expression.Goals as goal
 
 pub returns-in_err-left-clause-meets : goal.returns-in_err-left-clause-meets
 returns-in_err-left-clause-meets g c = handed (Expr c.args.no_in) c.args.base (grammar (Expr c.args.no_in)) c.args.tokens.now c.from_residual.result c.from_residual.ensures.1

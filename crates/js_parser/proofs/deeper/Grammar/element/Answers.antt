@@ -4,7 +4,7 @@ use Rattle.js_parser.specs.Rules.Symbol.{Items}
 use Rattle.js_parser.specs.Meets.{TookItem, MissesItem, after_element}
 use Rattle.js_parser.proofs.Along.{peeks, peeks_end, refuses, yes, no, passes_level, fails_level, handed_on}
 use Rattle.js_parser.proofs.Generic.{shorter}
-use Rattle.js_parser.proofs.lists.Grammar.element.Goals as goal
+use Rattle.js_parser.proofs.deeper.Grammar.element.Goals as goal
 
 pub returns-in_err-token-clause-item : goal.returns-in_err-token-clause-item
 returns-in_err-token-clause-item g c = handed_on (λ r. TookItem Items after_element c.args.base c.args.tokens.now r.0 r.1 r.2 r.3.now) (λ e. e ≢ Memory → MissesItem Items c.args.base c.args.tokens.now e)
