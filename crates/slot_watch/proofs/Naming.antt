@@ -1,6 +1,8 @@
 -- Slots by numbers under a naming of cells, and what the calls of the monitor come to by names.
-use Rattle.std.proofs.Common.{◌≡◌, refl, ap, sym, ◌∙◌, subst, ℕ, zero, suc, ◌<◌, ◌≤◌, List, [], ◌∷◌, ◌++◌, length, get_or, Option, Some, None, slice_get, arith}
+use Rattle.std.proofs.Common.{◌≡◌, refl, ap, sym, ◌∙◌, subst, ℕ, zero, suc, ◌<◌, ◌≤◌, List, [], ◌∷◌, ◌++◌, length, get_or, Option, Some, None, slice_get, false, map, arith}
 use Rattle.std.proofs.lemmas.Option.{slice_get-get_or, slice_get_within}
+use Rattle.std.specs.Prelude.{Result, Ok, Err, OnOk, OnErr}
+use Rattle.turk_base.specs.declared.NoMemory.{NoMemory}
 use Rattle.turk_base.specs.Names.{Path, root, sub, path_in, Name, cell, Part, shape, at, Slot, slot, holder, part_of, pick, under, Under, self, down}
 use Rattle.turk_base.specs.State.{Opening, opening, Verdict, independent, touched_open, once_while_open, branch_threw, first_reason, touched, touch_reason, open_at}
 use Rattle.branch_check.specs.declared.Slot.{Slot as CodeSlot}
@@ -12,6 +14,7 @@ use Rattle.slot_watch.specs.Keys.{Key, HasNumber, HasNone, AreDistinct, Grows, p
 use Rattle.slot_watch.specs.Named.{key_number, number_of_cell, number_of_key, by_names, renamed_all, renamed, named, TellsApart}
 use Rattle.slot_watch.specs.Within.{Each, InVerdict, Holds, CellsWithin, KeysWithin}
 use Rattle.slot_watch.specs.Slots.{Slots, Turns, KeepsMarks}
+use Rattle.slot_watch.proofs.KeyFacts.{get_front, get_last}
 use Rattle.slot_watch.proofs.Renaming.{touch_is, once_is, write_is, join_is, throw_is, untouched, alike, holds_touch, holds_once, holds_write, holds_join, holds_throw, holds_of, each_both, each_as}
 
 -- ---- slots that stand for numbers
@@ -27,7 +30,7 @@ key_back zero = refl
 key_back (suc k) = refl
 
 formed : (s : CodeSlot) → IsFormed (numbered s)
-formed s = record { is = λ i. slot (cell root s.cell) (part_numbered (key_back s.key (~ i))) }
+formed s = record { is = ap (λ k. slot (cell root s.cell) (part_numbered k)) (sym (key_back s.key)) }
 
 all_formed : (l : List OpenSlot) → Each IsFormed (openings_of l)
 all_formed [] = tt
@@ -149,3 +152,94 @@ by_root m x w = by (under root m)
     by : (d : Dec (Under root m)) → (let v = after_touch root x w in record v { opened = pick d w.opened (open_at x root w.opened) }) ≡ after_touch root x w
     by (yes u) = refl
     by (no n) = absurd (n (root_under m))
+
+-- ---- the calls: what holds of the numbers, and what they come to by names
+
+module _ (n : ℕ) (b : Path) (s : CodeSlot) (old new : Kept) (key : s.key ≤ n) (within : KeysWithin n old) where
+  pub keys_touch : watch_of new ≡ after_touch b (numbered s) (watch_of old) → KeysWithin n new
+  keys_touch e = subst (Holds (λ x. number_of_key x ≤ n)) (sym e) (holds_touch (λ x. number_of_key x ≤ n) b (numbered s) (watch_of old) (omega (arith, key_back s.key, key)) within)
+
+  pub keys_write : (m : Path) → watch_of new ≡ after_write b m (numbered s) (watch_of old) → KeysWithin n new
+  keys_write m e = subst (Holds (λ x. number_of_key x ≤ n)) (sym e) (holds_write (λ x. number_of_key x ≤ n) b m (numbered s) (watch_of old) (omega (arith, key_back s.key, key)) within)
+
+module _ (n : ℕ) (b : Path) (s : CodeSlot) (old new : Kept) (here : s.cell < n) (within : CellsWithin n old) where
+  pub cells_touch : watch_of new ≡ after_touch b (numbered s) (watch_of old) → CellsWithin n new
+  cells_touch e = subst (Holds (λ x. number_of_cell x < n)) (sym e) (holds_touch (λ x. number_of_cell x < n) b (numbered s) (watch_of old) here within)
+
+  pub cells_write : (m : Path) → watch_of new ≡ after_write b m (numbered s) (watch_of old) → CellsWithin n new
+  cells_write m e = subst (Holds (λ x. number_of_cell x < n)) (sym e) (holds_write (λ x. number_of_cell x < n) b m (numbered s) (watch_of old) here within)
+
+module _ (P : Slot → Type 0) (old new : Kept) (within : Holds P (watch_of old)) where
+  pub after_once_holds : (b : Path) → watch_of new ≡ after_once b (watch_of old) → Holds P (watch_of new)
+  after_once_holds b e = subst (Holds P) (sym e) (holds_once P b (watch_of old) within)
+
+  pub after_join_holds : (s : Path) → watch_of new ≡ after_join s (watch_of old) → Holds P (watch_of new)
+  after_join_holds s e = subst (Holds P) (sym e) (holds_join P s (watch_of old) within)
+
+  pub after_throw_holds : (p : Path) → watch_of new ≡ after_throw p (watch_of old) → Holds P (watch_of new)
+  after_throw_holds p e = subst (Holds P) (sym e) (holds_throw P p (watch_of old) within)
+
+abbrev pub AllHave : (Kept → Type 0) → List Kept → Type 0
+AllHave P ms = (i : ℕ) (k : Kept) → slice_get ms i ≡ Some k → P k
+
+pub marks_same : (P : Kept → Type 0) (ms ns : List Kept) → ns ≡ ms → AllHave P ms → AllHave P ns
+marks_same P ms ns e h i k f = h i k (ap (λ l. slice_get l i) (sym e) ∙ f)
+
+abbrev pub slots : List Key → Kept → List Kept → Slots
+slots keys k ms = record { keys = keys; current = k; marks = ms }
+
+pub keeps_same : (keys : List Key) (k l : Kept) (ms ns : List Kept) → ns ≡ ms → KeepsMarks (slots keys k ms) (slots keys l ns)
+keeps_same keys k l ms ns e = record { marks = e; meaning = λ nu i m f. refl }
+
+pub keeps_more : (keys more : List Key) (k l : Kept) (ms ns : List Kept) → Grows keys more → ns ≡ ms → AllHave (KeysWithin (length keys)) ms → KeepsMarks (slots keys k ms) (slots more l ns)
+keeps_more keys more k l ms ns g e h = record { marks = e; meaning = λ nu i m f. same_meaning nu keys more m g (h i m f) }
+
+module _ (keys : List Key) (distinct : AreDistinct keys) (old : Kept) (ms : List Kept) (within : KeysWithin (length keys) old) (s : CodeSlot) (key : s.key ≤ length keys) (y : Part) (part : part_in keys s.key ≡ y) (new : Kept) (ns : List Kept) (b : Path) where
+  pub touch_turns : watch_of new ≡ after_touch b (numbered s) (watch_of old) → (n : ℕ) → s.cell < n → CellsWithin n old
+      → Turns (λ nu w. after_touch b (slot (nu s.cell) y) w) n (slots keys old ms) (slots keys new ns)
+  touch_turns e n here c = record {
+    now = λ nu tells. touch_named nu n tells keys distinct s here key b old new c within e ∙ ap (λ y. after_touch b (slot (nu s.cell) y) (named nu keys old)) part;
+  }
+
+  pub write_turns : (m : Path) → watch_of new ≡ after_write b m (numbered s) (watch_of old) → (n : ℕ) → s.cell < n → CellsWithin n old
+      → Turns (λ nu w. after_write b m (slot (nu s.cell) y) w) n (slots keys old ms) (slots keys new ns)
+  write_turns m e n here c = record {
+    now = λ nu tells. write_named nu n tells keys distinct s here key b m old new c within e ∙ ap (λ y. after_write b m (slot (nu s.cell) y) (named nu keys old)) part;
+  }
+
+pub either : {P Q X : Type 0} (r : Result (Unit {0}) NoMemory) → OnOk r P → OnErr r Q → (P → X) → (Q → X) → X
+either (Ok u) p q f g = f p
+either (Err e) p q f g = g q
+
+pub on_ok : {P Q : Type 0} (r : Result (Unit {0}) NoMemory) → (P → Q) → OnOk r P → OnOk r Q
+on_ok (Ok u) f h = f h
+on_ok (Err e) f h = tt
+
+pub same_holds : (P : Slot → Type 0) (old new : Kept) → new ≡ old → Holds P (watch_of old) → Holds P (watch_of new)
+same_holds P old new e h = subst (λ k. Holds P (watch_of k)) (sym e) h
+
+pub either_mark : {P Q X : Type 0} (r : Result ℕ NoMemory) → OnOk r P → OnErr r Q → (P → X) → (Q → X) → X
+either_mark (Ok u) p q f g = f p
+either_mark (Err e) p q f g = g q
+
+module _ (keys : List Key) (old : Kept) (ms : List Kept) (new : Kept) (ns : List Kept) (n : ℕ) where
+  pub once_turns : (b : Path) → watch_of new ≡ after_once b (watch_of old) → Turns (λ nu w. after_once b w) n (slots keys old ms) (slots keys new ns)
+  once_turns b e = record { now = λ nu tells. ap (renamed (by_names nu keys)) e ∙ once_is (by_names nu keys) b (watch_of old) }
+
+  pub join_turns : (s : Path) → watch_of new ≡ after_join s (watch_of old) → Turns (λ nu w. after_join s w) n (slots keys old ms) (slots keys new ns)
+  join_turns s e = record { now = λ nu tells. ap (renamed (by_names nu keys)) e ∙ join_is (by_names nu keys) s (watch_of old) }
+
+  pub throw_turns : (p : Path) → watch_of new ≡ after_throw p (watch_of old) → Turns (λ nu w. after_throw p w) n (slots keys old ms) (slots keys new ns)
+  throw_turns p e = record { now = λ nu tells. ap (renamed (by_names nu keys)) e ∙ throw_is (by_names nu keys) p (watch_of old) }
+
+-- the same from what there was before more keys came
+pub from_more : (keys more : List Key) (old : Kept) (ms : List Kept) → Grows keys more → KeysWithin (length keys) old → (f : (ℕ → Name) → Watch → Watch) (n : ℕ) (new : Slots)
+    → Turns f n (slots more old ms) new → Turns f n (slots keys old ms) new
+from_more keys more old ms g w f n new t = record { now = λ nu tells. t.now nu tells ∙ ap (f nu) (same_meaning nu keys more old g w) }
+
+module _ (P : Kept → Type 0) (all ms : List Kept) (k : Kept) (e : all ≡ ms ++ k ∷ []) (h : AllHave P all) where
+  pub last_mark : P k
+  last_mark = h (length ms) k (ap (λ l. slice_get l (length ms)) e ∙ get_last ms k)
+
+  pub first_marks : AllHave P ms
+  first_marks i m f = h i m (ap (λ l. slice_get l i) e ∙ get_front ms (k ∷ []) i m f)

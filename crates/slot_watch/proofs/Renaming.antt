@@ -85,7 +85,7 @@ module _ (r : Slot → Slot) where
       λ i. record { opened = o i; verdict = touch_verdict b x w.opened w.verdict h i }
 
   pub join_is : (s : Path) (w : Watch) → renamed r (after_join s w) ≡ after_join s (renamed r w)
-  join_is s w = λ i. record { opened = cut_renamed s w.opened (~ i); verdict = renamed_verdict r w.verdict }
+  join_is s w = let e = sym (cut_renamed s w.opened) in λ i. record { opened = e i; verdict = renamed_verdict r w.verdict }
 
   pub throw_is : (p : Path) (w : Watch) → renamed r (after_throw p w) ≡ after_throw p (renamed r w)
   throw_is p w = λ i. record { opened = renamed_all r w.opened; verdict = first_reason_renamed w.verdict (branch_threw p) i }

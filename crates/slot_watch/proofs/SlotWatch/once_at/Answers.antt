@@ -1,0 +1,28 @@
+use Rattle.std.proofs.Common.{◌≡◌, refl, ap, sym, ◌∙◌, subst, ℕ, ◌<◌, ◌≤◌, length, arith, List, [], ◌∷◌, ◌++◌}
+use Rattle.std.specs.Prelude.{OnOk}
+use Rattle.turk_base.specs.Names.{path_in, slot, shape, at, root}
+use Rattle.branch_check.specs.Watch.{Kept, after_touch, after_once, after_write, after_join, after_throw}
+use Rattle.slot_watch.specs.Named.{number_of_key, number_of_cell}
+use Rattle.slot_watch.specs.Within.{CellsWithin, KeysWithin}
+use Rattle.slot_watch.specs.Slots.{Slots, Turns, KeepsMarks}
+use Rattle.slot_watch.proofs.Naming.{slots, keys_touch, keys_write, cells_touch, cells_write, after_once_holds, after_join_holds, after_throw_holds, marks_same, keeps_same, keeps_more, touch_turns, write_turns, has_part, has_within, untouched_named, by_root, more_keys, once_turns, join_turns, throw_turns, from_more, first_marks, last_mark, either, on_ok, same_holds}
+use Rattle.slot_watch.proofs.SlotWatch.once_at.Goals as goal
+
+pub invariant_of-self : goal.invariant_of-self
+invariant_of-self c =
+    let a = c.self.inside in
+    record {
+      current = after_once_holds (λ x. number_of_key x ≤ length a.keys) a.monitor.current c.once_at.new.self.current c.self.invariant.current (path_in c.args.by.now) c.once_at.ensures.now;
+      marks = marks_same (KeysWithin (length a.keys)) a.monitor.marks c.once_at.new.self.marks c.once_at.ensures.marks c.self.invariant.marks;
+    }
+
+pub returns-clause-now : goal.returns-clause-now
+returns-clause-now c = λ n.
+    let a = c.self.inside in
+    subst (λ (s : Slots). Turns (λ nu w. after_once (path_in c.args.by.now) w) n s (slots a.keys c.once_at.new.self.current c.once_at.new.self.marks)) c.self.view_is
+    (once_turns a.keys a.monitor.current a.monitor.marks c.once_at.new.self.current c.once_at.new.self.marks n (path_in c.args.by.now) c.once_at.ensures.now)
+
+pub returns-clause-within : goal.returns-clause-within
+returns-clause-within c = λ n w.
+    let a = c.self.inside in
+    after_once_holds (λ x. number_of_cell x < n) a.monitor.current c.once_at.new.self.current (subst (λ (s : Slots). CellsWithin n s.current) (sym c.self.view_is) w) (path_in c.args.by.now) c.once_at.ensures.now
