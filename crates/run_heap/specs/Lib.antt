@@ -1,0 +1,5 @@
+pub mod Core
+pub mod Placed
+pub mod Stored
+pub mod Whole
+pub mod Works

@@ -1,0 +1,70 @@
+//! The steps: one access of one cell, a charge, the making of a cell.
+ghost use Rattle.std.specs.Prelude.{◌≡◌, ◌<◌, ◌≤◌, [], true, false, Some, None, IfOk, IsSome, slice_get};
+ghost use Rattle.std.specs.Option.{option_map};
+ghost use Rattle.turk_base.specs.Cells.{look as look_at, put as put_at, remove as remove_at};
+ghost use Rattle.turk_base.specs.State.{charge, change};
+ghost use Rattle.turk_base.specs.Steps.{give, step};
+ghost use Rattle.value_cells.specs.Needs.{needs, option_needs, kind_needs};
+ghost use Rattle.value_cells.specs.Held.{IsWhole, own, kinds_of};
+ghost use Rattle.value_cells.specs.Seen.{val_in, kind_in};
+ghost use Rattle.value_cells.specs.Does.{told};
+ghost use Rattle.run_heap.specs.Core.{count, Rests};
+ghost use Rattle.run_heap.specs.Whole.{IsCore};
+ghost use Rattle.run_heap.specs.Works.{Works};
+
+use crate::RunHeap;
+use turk_base::Units;
+use value_cells::{CellKind, OpStop, Value};
+
+impl RunHeap {
+    /// Does nothing, and tells what is true of each heap.
+    pub fn known(&self)
+        ensures cells { IsWhole self.now.cells.now }
+        ensures core { IsCore self.now }
+    {
+        self.cells.known();
+    }
+
+    /// Pays so many units of fuel.
+    pub fn pay(&mut self, units: u64) -> Result<(), OpStop>
+        ensures did { Works (λ nu. step (charge units) give) (λ nu. told (λ u. u) result) self.old self.new }
+        ensures rests { Rests self.old self.new }
+        ensures cells { self.new.cells ≡ self.old.cells }
+    {
+        if self.left < units {
+            return Err(OpStop::Spent);
+        }
+        self.left -= units;
+        Ok(())
+    }
+
+    /// The kind of a cell. A cell that it names was made before this one.
+    pub fn kind(&self, cell: u32) -> &CellKind
+        requires { cell < count self.now }
+        ensures kind { slice_get (kinds_of self.now.cells.now) cell ≡ Some result.now }
+        ensures older { kind_needs result.now ≤ cell }
+    {
+        self.cells.kind(cell)
+    }
+
+    /// A cell's own property, which is touched; where it is missing, the shape is.
+    pub fn look(&mut self, cell: u32, key: &Units) -> Result<Option<Value>, OpStop>
+        requires { cell < count self.old }
+        ensures did { Works (λ nu. step (change true (nu cell) (look_at key.now)) give) (λ nu. told (option_map (val_in nu)) result) self.old self.new }
+        ensures rests { Rests self.old self.new }
+        ensures cells { self.new.cells ≡ self.old.cells }
+        ensures exists { IfOk result (λ v. option_needs v ≤ count self.new) }
+    {
+        match self.cells.read(cell, key) {
+            None => {
+                self.slots.touch_shape(cell, &self.place.branch);
+                Ok(None)
+            }
+            Some(value) => {
+                let copy = value.copy(self.alloc)?;
+                self.slots.touch(cell, key, &self.place.branch);
+                Ok(Some(copy))
+            }
+        }
+    }
+}
