@@ -34,25 +34,21 @@ chain_of kinds i = chain_from kinds (suc i) i
 abbrev pub props_in : Naming → Props → List Property
 props_in nu ps = map (λ e. property e.0 (val_in nu e.1)) ps
 
+-- what f gives of the first k cells, by their names, and z of each other name
+abbrev pub table : {B : Type 0} → Naming → (ℕ → B) → B → ℕ → Name → B
+table nu f z zero m = z
+table nu f z (suc i) m = pick (name_eq m (nu i)) (f i) (table nu f z i m)
+
 -- what is known of one cell
 abbrev pub known_one : Naming → List CellKind → ℕ → Option CellKind → Option Known
 known_one nu kinds i None = None
 known_one nu kinds i (Some kind) = Some (record { kind = kind_in nu kind; chain = map nu (chain_of kinds i) })
 
--- of the first k cells
-abbrev pub known_below : Naming → List CellKind → ℕ → Name → Option Known
-known_below nu kinds zero m = None
-known_below nu kinds (suc i) m = pick (name_eq m (nu i)) (known_one nu kinds i (slice_get kinds i)) (known_below nu kinds i m)
-
-abbrev pub props_below : Naming → List Cell → ℕ → Name → List Property
-props_below nu cells zero m = []
-props_below nu cells (suc i) m = pick (name_eq m (nu i)) (props_in nu (props_at cells i)) (props_below nu cells i m)
-
 abbrev pub known_of : Naming → List Cell → Name → Option Known
-known_of nu cells = known_below nu (kinds_of cells) (length cells)
+known_of nu cells = table nu (λ i. known_one nu (kinds_of cells) i (slice_get (kinds_of cells) i)) None (length cells)
 
 abbrev pub props_of : Naming → List Cell → Name → List Property
-props_of nu cells = props_below nu cells (length cells)
+props_of nu cells = table nu (λ i. props_in nu (props_at cells i)) [] (length cells)
 
 -- the state, with cells, open slots and verdict of the heap
 abbrev pub placed : Naming → Core → St → St

@@ -1,5 +1,5 @@
 //! The heap of a run: cells by numbers, with the touches and the charges of each access.
-#![tactic(none)]
+#![tactic(auto)]
 
 use slot_watch::SlotWatch;
 use std::alloc::Global;

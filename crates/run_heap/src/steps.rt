@@ -1,5 +1,5 @@
-//! The steps: one access of one cell, a charge, the making of a cell.
-ghost use Rattle.std.specs.Prelude.{◌≡◌, ◌<◌, ◌≤◌, [], true, false, Some, None, IfOk, IsSome, slice_get};
+//! The steps: one access of one cell, a charge.
+ghost use Rattle.std.specs.Prelude.{◌≡◌, ◌<◌, ◌≤◌, ℕ, [], length, true, false, Some, None, IfOk, IsSome, slice_get};
 ghost use Rattle.std.specs.Option.{option_map};
 ghost use Rattle.turk_base.specs.Cells.{look as look_at, put as put_at, remove as remove_at};
 ghost use Rattle.turk_base.specs.State.{charge, change};
@@ -25,7 +25,7 @@ impl RunHeap {
         self.cells.known();
     }
 
-    /// Pays so many units of fuel.
+    /// Pays so many units of fuel. Spent comes exactly where there are fewer, and then nothing changes.
     pub fn pay(&mut self, units: u64) -> Result<(), OpStop>
         ensures did { Works (λ nu. step (charge units) give) (λ nu. told (λ u. u) result) self.old self.new }
         ensures rests { Rests self.old self.new }
@@ -47,6 +47,18 @@ impl RunHeap {
         self.cells.kind(cell)
     }
 
+    /// Whether a cell has the property itself. It touches nothing.
+    pub fn has(&self, cell: u32, key: &Units) -> bool
+        requires { cell < count self.now }
+        ensures there { result ≡ true → IsSome (own self.now.cells.now cell key.now) }
+        ensures missing { result ≡ false → own self.now.cells.now cell key.now ≡ None }
+    {
+        match self.cells.read(cell, key) {
+            Some(_) => true,
+            None => false,
+        }
+    }
+
     /// A cell's own property, which is touched; where it is missing, the shape is.
     pub fn look(&mut self, cell: u32, key: &Units) -> Result<Option<Value>, OpStop>
         requires { cell < count self.old }
@@ -55,6 +67,7 @@ impl RunHeap {
         ensures cells { self.new.cells ≡ self.old.cells }
         ensures exists { IfOk result (λ v. option_needs v ≤ count self.new) }
     {
+        self.cells.known();
         match self.cells.read(cell, key) {
             None => {
                 self.slots.touch_shape(cell, &self.place.branch);
@@ -66,5 +79,42 @@ impl RunHeap {
                 Ok(Some(copy))
             }
         }
+    }
+
+    /// Sets a cell's own property that is there.
+    pub fn set_there(&mut self, cell: u32, key: &Units, value: Value) -> Result<(), OpStop>
+        requires cell { cell < count self.old }
+        requires there { IsSome (own self.old.cells.now cell key.now) }
+        requires value { needs value ≤ count self.old }
+        ensures did { Works (λ nu. step (change true (nu cell) (put_at key.now (val_in nu value))) give) (λ nu. told (λ u. u) result) self.old self.new }
+        ensures rests { Rests self.old self.new }
+        ensures count { count self.new ≡ count self.old }
+    {
+        self.cells.known();
+        let maker = self.cells.name(cell);
+        self.slots
+            .wrote(cell, key, &self.place.branch, &maker.scope)?;
+        self.cells.write(cell, key, value)?;
+        Ok(())
+    }
+
+    /// Creates a cell's own property, last. The property isn't charged.
+    pub fn create(&mut self, cell: u32, key: &Units, value: Value) -> Result<(), OpStop>
+        requires cell { cell < count self.old }
+        requires missing { own self.old.cells.now cell key.now ≡ None }
+        requires value { needs value ≤ count self.old }
+        ensures did { Works (λ nu. step (change false (nu cell) (put_at key.now (val_in nu value))) give) (λ nu. told (λ u. u) result) self.old self.new }
+        ensures rests { Rests self.old self.new }
+        ensures count { count self.new ≡ count self.old }
+    {
+        self.cells.known();
+        let key = key.copy(self.alloc)?;
+        let maker = self.cells.name(cell);
+        self.slots
+            .wrote(cell, &key, &self.place.branch, &maker.scope)?;
+        self.slots
+            .wrote_shape(cell, &self.place.branch, &maker.scope)?;
+        self.cells.create(cell, key, value)?;
+        Ok(())
     }
 }

@@ -1,0 +1,7 @@
+pub mod Acts
+pub mod Keys
+pub mod Look
+pub mod Tables
+pub mod Turn
+pub mod Watches
+pub mod Whole
