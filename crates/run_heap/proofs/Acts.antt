@@ -97,3 +97,22 @@ module _ (i : ℕ) (e : Naming → Edit) (old new : Core) (here : i < count old)
 pub change_cost : (i : ℕ) (e : Naming → Edit) (old : Core) → i < count old → (nu : Naming) → TellsApart nu (count old) → (σ : St) (paid : Bool)
     → op_cost (change paid (nu i) (e nu)) (placed nu old σ) ≡ if_paid paid (edit_cost (e nu) (spec.props_in nu (props_at old.cells.now i)))
 change_cost i e old here nu apart σ paid = ap (λ p. if_paid paid (edit_cost (e nu) p)) (props_here nu old.cells.now apart i here)
+
+free_act : (c : Name) (e : Edit) (s b : Path) (body : Bool) (σ : St) (m : ℕ) → nat_lt m 0 ≡ false → m - 0 ≡ m
+    → comes (step (change false c e) give) s b body σ m ≡ then_goes (acted (act (change true c e) s b body σ) m) (λ a τ m. comes (give a) s b body τ m)
+unfolding comes act
+free_act c e s b body σ m u z =
+    let go = λ (k : ℕ). then_goes (acted (act_change (σ.known c) b c e σ) k) (λ a τ m. goes a τ m) in
+    ap (λ t. charged t 0 σ m (go (m - 0))) u ∙ ap go z
+
+-- a created property is paid first
+pub paid_same : (c : Name) (e : Edit) (s b : Path) (body : Bool) (σ : St) (n : ℕ) → edit_cost e (σ.props c) ≡ 1 → 1 ≤ n
+    → comes (step (change true c e) give) s b body σ n ≡ comes (step (change false c e) give) s b body σ (n - 1)
+unfolding comes
+paid_same c e s b body σ n cost h =
+    let t : nat_lt n (edit_cost e (σ.props c)) ≡ false = grind (arith, nat_tests) in
+    let u : nat_lt (n - 1) 0 ≡ false = grind (arith, nat_tests) in
+    let z : (n - 1) - 0 ≡ n - 1 = omega arith in
+    let go = λ (m : ℕ). then_goes (acted (act (change true c e) s b body σ) m) (λ a τ m. comes (give a) s b body τ m) in
+    ap (λ t. charged t (edit_cost e (σ.props c)) σ n (go (n - edit_cost e (σ.props c)))) t ∙ ap (λ k. go (n - k)) cost
+    ∙ sym (free_act c e s b body σ (n - 1) u z)

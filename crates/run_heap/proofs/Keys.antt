@@ -97,3 +97,13 @@ module _ (nu : Naming) where
   pub keys_in : (ps : Props) → keys_of (props_in nu ps) ≡ std.keys_of ps
   keys_in [] = refl
   keys_in (e ∷ ps) = ap (λ l. e.0 ∷ l) (keys_in ps)
+
+  pub drop_missing : (k : Key) (ps : Props) → lookup (key_eq k) ps ≡ None → drop_key k (props_in nu ps) ≡ props_in nu ps
+  drop_missing k [] h = refl
+  drop_missing k (e ∷ ps) h =
+      pick_key e.0 k (drop_key k (props_in nu ps)) (property e.0 (val_in nu e.1) ∷ drop_key k (props_in nu ps)) ∙ by (key_eq k e.0) h (drop_missing k ps)
+    where
+      by : (t : Bool) → cond t (Some e.1) (lookup (key_eq k) ps) ≡ None → (lookup (key_eq k) ps ≡ None → drop_key k (props_in nu ps) ≡ props_in nu ps)
+          → cond t (drop_key k (props_in nu ps)) (property e.0 (val_in nu e.1) ∷ drop_key k (props_in nu ps)) ≡ property e.0 (val_in nu e.1) ∷ props_in nu ps
+      by true h r = absurd (true≢false (ap is_some h))
+      by false h r = ap (λ l. property e.0 (val_in nu e.1) ∷ l) (r h)

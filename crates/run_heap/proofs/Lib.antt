@@ -1,4 +1,5 @@
 pub mod Acts
+pub mod Chains
 pub mod Keys
 pub mod Look
 pub mod Tables

@@ -24,11 +24,15 @@ use Rattle.run_heap.specs.Core.{Core, count, names_in}
 use Rattle.run_heap.specs.Placed.{placed, Around, seen_in}
 use Rattle.run_heap.specs.Placed as spec
 use Rattle.run_heap.specs.Works.{Works}
-use Rattle.run_heap.proofs.Keys.{found_in, set_there, set_new}
-use Rattle.run_heap.proofs.Tables.{name_at, tells}
-use Rattle.run_heap.proofs.Watches.{edited_watch, look_some, look_none, put_some, put_none}
-use Rattle.run_heap.proofs.Acts.{Edits}
-use Rattle.run_heap.proofs.Turn.{Keeps, works_one, edit_goes, core}
+use Rattle.std.specs.List.{IsDistinct}
+use Rattle.std.specs.Map as std
+use Rattle.value_cells.specs.Does.{Spends, Did}
+use Rattle.value_cells.proofs.Turns.{fits_before}
+use Rattle.run_heap.proofs.Keys.{found_in, set_there, set_new, drop_in, drop_missing, keys_in}
+use Rattle.run_heap.proofs.Tables.{name_at, tells, props_here}
+use Rattle.run_heap.proofs.Watches.{edited_watch, look_some, look_none, put_some, put_none, remove_some, remove_none, list_watch}
+use Rattle.run_heap.proofs.Acts.{Edits, paid_same}
+use Rattle.run_heap.proofs.Turn.{Keeps, works_one, works_spends, edit_goes, edit_spends, core}
 
 with_same : (cells : List Cell) (i : ℕ) → held.with_props cells i (props_at cells i) ≡ cells
 with_same [] i = refl
@@ -137,3 +141,69 @@ module _ (cells : Held) (place : Place) (outer : List Place) (left : ℕ) (whole
         let new_are = λ (nu : Naming). sym (set_new nu key v props missing) in
         works_one (λ nu. step (change false (nu i) (put key (val_in nu v))) give) (λ nu. tt) (core cells slots place outer left) (core more after place outer left) (keeps slots after more e ps is new_are w)
         (edited_goes slots after more e ps is new_are w false (λ nu. refl))
+
+    pub drops : (slots mid after : Slots) (more : Held) → IsDistinct key_eq (std.keys_of (props_at cells.now i)) → IsSome (own cells.now i key) → more.now ≡ held.with_props cells.now i (remove_entry (key_eq key) (props_at cells.now i))
+        → Turns (λ nu w. after_write (path_in place.branch) (path_in n.scope) (slot (nu i) (at key)) w) (length cells.now) slots mid
+        → Turns (λ nu w. after_write (path_in place.branch) (path_in n.scope) (slot (nu i) shape) w) (length cells.now) mid after
+        → Works (λ nu. step (change true (nu i) (remove key)) give) (λ nu. Says tt) (core cells slots place outer left) (core more after place outer left)
+    drops slots mid after more distinct there is t u =
+        let v = some_of (own cells.now i key) there in
+        let found_is = λ (nu : Naming). found_in nu key props ∙ ap (option_map (val_in nu)) v.1 in
+        let w = λ (nu : Naming) (f : Fits nu (names_in cells.now)) (a : TellsApart nu (length cells.now)).
+            written mid after (λ nu. slot (nu i) shape) u nu f a
+            ∙ ap (λ (w : Watch). after_write (path_in place.branch) (home (nu i)) (slot (nu i) shape) w) (written slots mid (λ nu. slot (nu i) (at key)) t nu f a)
+            ∙ sym (remove_some (path_in place.branch) (nu i) key (spec.props_in nu props) (named nu slots.keys slots.current) (val_in nu v.0) (found_is nu)) in
+        let e = λ (nu : Naming). remove key in
+        let ps = remove_entry (key_eq key) props in
+        let new_are = λ (nu : Naming). sym (drop_in nu key props distinct) in
+        works_one (λ nu. step (change true (nu i) (remove key)) give) (λ nu. tt) (core cells slots place outer left) (core more after place outer left) (keeps slots after more e ps is new_are w)
+        (edited_goes slots after more e ps is new_are w true (λ nu. refl))
+
+  -- ---- the shape alone is touched
+
+  module _ (slots after : Slots) (t : Turns (λ nu w. after_touch (path_in place.branch) (slot (nu i) shape) w) (length cells.now) slots after) where
+    pub drops_none : own cells.now i key ≡ None → Works (λ nu. step (change true (nu i) (remove key)) give) (λ nu. Says tt) (core cells slots place outer left) (core cells after place outer left)
+    drops_none missing =
+        let found_is = λ (nu : Naming). found_in nu key props ∙ ap (option_map (val_in nu)) missing in
+        let w = λ (nu : Naming) (f : Fits nu (names_in cells.now)) (a : TellsApart nu (length cells.now)).
+            t.now nu a ∙ sym (remove_none (path_in place.branch) (nu i) key (spec.props_in nu props) (named nu slots.keys slots.current) (found_is nu)) in
+        let e = λ (nu : Naming). remove key in
+        let is = sym (with_same cells.now i) in
+        let new_are = λ (nu : Naming). sym (drop_missing nu key props missing) in
+        works_one (λ nu. step (change true (nu i) (remove key)) give) (λ nu. tt) (core cells slots place outer left) (core cells after place outer left) (keeps slots after cells e props is new_are w)
+        (edited_goes slots after cells e props is new_are w true (λ nu. refl))
+
+    pub lists : Works (λ nu. step (change true (nu i) list) give) (λ nu. Says (std.keys_of (props_at cells.now i))) (core cells slots place outer left) (core cells after place outer left)
+    lists =
+        let w = λ (nu : Naming) (f : Fits nu (names_in cells.now)) (a : TellsApart nu (length cells.now)).
+            t.now nu a ∙ sym (list_watch (path_in place.branch) (nu i) (spec.props_in nu props) (named nu slots.keys slots.current)) in
+        let e = λ (nu : Naming). list in
+        let is = sym (with_same cells.now i) in
+        works_one (λ nu. step (change true (nu i) list) give) (λ nu. std.keys_of props) (core cells slots place outer left) (core cells after place outer left) (keeps slots after cells e props is (λ nu. refl) w)
+        (λ r nu f. edited_goes slots after cells e props is (λ nu. refl) w true (λ nu. refl) r nu f ∙ ap (λ ks. goes ks (placed nu (core cells after place outer left) (r.base nu)) left) (keys_in nu props))
+
+-- ---- a property that is missing is paid
+
+module _ (old : Core) (whole : IsWhole old.cells.now) (i : ℕ) (here : i < count old) (key : Key) (v : Value) (missing : own old.cells.now i key ≡ None) where
+  cost_is : (nu : Naming) → edit_cost (put key (val_in nu v)) (spec.props_in nu (props_at old.cells.now i)) ≡ 1
+  cost_is nu = ap created (found_in nu key (props_at old.cells.now i) ∙ ap (option_map (val_in nu)) missing)
+
+  pub set_spends : old.left < 1 → Works (λ nu. step (change true (nu i) (put key (val_in nu v))) give) (λ nu. Spends) old old
+  set_spends h = works_spends (λ nu. step (change true (nu i) (put key (val_in nu v))) give) old
+      (λ r nu f. edit_spends i (λ nu. put key (val_in nu v)) old here whole true (λ nu. subst (λ c. old.left < c) (sym (cost_is nu)) h) r nu f)
+
+  pub set_paid : (said : Naming → Told (Unit {0})) (new : Core) → 1 ≤ old.left → Works (λ nu. step (change false (nu i) (put key (val_in nu v))) give) said (record old { left = old.left - 1 }) new
+      → Works (λ nu. step (change true (nu i) (put key (val_in nu v))) give) said old new
+  set_paid said new h y = record {
+    all = λ r.
+        let l = y.all r in
+        record {
+          stays = record { scope = l.stays.scope; outer = l.stays.outer; grows = l.stays.grows; below = l.stays.below };
+          did = λ nu fits.
+              let a = tells nu old.cells.now whole (fits_before nu (names_in old.cells.now) (names_in new.cells.now) l.stays.grows fits) in
+              subst (λ c. Did c (said nu) (placed nu new (r.base nu)) new.left)
+                (sym (paid_same (nu i) (put key (val_in nu v)) (path_in old.place.path) (path_in old.place.branch) r.body (placed nu old (r.base nu)) old.left
+                (ap (edit_cost (put key (val_in nu v))) (props_here nu old.cells.now a i here) ∙ cost_is nu) h))
+                (l.did nu fits);
+        };
+  }

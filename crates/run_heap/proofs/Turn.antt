@@ -149,3 +149,7 @@ fails_exit g f (Err e) old new k h = subst (λ e. Works g (λ nu. told_stop e) o
 
 pub keeps_same : (c : Core) → Keeps c c
 keeps_same c = record { path = refl; branch = refl; names = refl }
+
+pub err_exit : {A B : Type 0} (g : Naming → Small A) (f : Naming → B → A) (r : Result B OpStop) (x : OpStop) (old new : Core) → IsErrAnd r (λ e. e ≡ x) → Works g (λ nu. told_stop x) old new → Works g (λ nu. told (f nu) r) old new
+err_exit g f (Ok b) x old new h y = absurd h
+err_exit g f (Err e) x old new h y = subst (λ e. Works g (λ nu. told_stop e) old new) (sym h) y

@@ -7,7 +7,7 @@ use Rattle.value_cells.specs.Seen.{Grows}
 use Rattle.slot_watch.specs.Slots.{Slots}
 use Rattle.slot_watch.specs.Within.{CellsWithin}
 use Rattle.run_heap.specs.declared.Place.{Place}
-use Rattle.run_heap.specs.Core.{Core, names_in}
+use Rattle.run_heap.specs.Core.{Core, names_in, Rests}
 use Rattle.run_heap.specs.Whole.{Older, Nested, Marked, IsCore}
 
 -- the cells keep their names, and the marks are the same
@@ -25,4 +25,16 @@ core_kept old h cells slots left cm sm names within = record {
   within = within;
   as_many_cells = ap length cm ∙ h.as_many_cells;
   as_many_slots = ap length sm ∙ h.as_many_slots;
+}
+
+pub rests_then : (s t u : Core) → Rests s t → Rests t u → Rests s u
+rests_then s t u x y = record {
+  cells = y.cells ∙ x.cells;
+  slots = record {
+    marks = y.slots.marks ∙ x.slots.marks;
+    meaning = λ nu i k e. y.slots.meaning nu i k (ap (λ l. slice_get l i) x.slots.marks ∙ e) ∙ x.slots.meaning nu i k e;
+  };
+  path = y.path ∙ x.path;
+  branch = y.branch ∙ x.branch;
+  outer = y.outer ∙ x.outer;
 }

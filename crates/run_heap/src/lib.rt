@@ -7,6 +7,7 @@ use std::marker::Model;
 use turk_base::Path;
 use value_cells::Cells;
 
+mod accesses;
 mod steps;
 
 /// The scope that runs or one around it: its path, the branch that holds it, and how many cells

@@ -1,13 +1,14 @@
 //! The steps: one access of one cell, a charge.
-ghost use Rattle.std.specs.Prelude.{◌≡◌, ◌<◌, ◌≤◌, ℕ, [], length, true, false, Some, None, IfOk, IsSome, slice_get};
+ghost use Rattle.std.specs.Prelude.{◌≡◌, ◌-◌, ◌<◌, ◌≤◌, length, true, false, Some, None, IfOk, IfErr, OnOk, IsSome, slice_get};
 ghost use Rattle.std.specs.Option.{option_map};
-ghost use Rattle.turk_base.specs.Cells.{look as look_at, put as put_at, remove as remove_at};
+ghost use Rattle.turk_base.specs.Cells.{look as look_at, put as put_at, remove as remove_at, list as list_all};
 ghost use Rattle.turk_base.specs.State.{charge, change};
 ghost use Rattle.turk_base.specs.Steps.{give, step};
 ghost use Rattle.value_cells.specs.Needs.{needs, option_needs, kind_needs};
-ghost use Rattle.value_cells.specs.Held.{IsWhole, own, kinds_of};
+ghost use Rattle.std.specs.Map.{keys_of};
+ghost use Rattle.value_cells.specs.Held.{IsWhole, own, kinds_of, props_at};
 ghost use Rattle.value_cells.specs.Seen.{val_in, kind_in};
-ghost use Rattle.value_cells.specs.Does.{told};
+ghost use Rattle.value_cells.specs.Does.{told, Says};
 ghost use Rattle.run_heap.specs.Core.{count, Rests};
 ghost use Rattle.run_heap.specs.Whole.{IsCore};
 ghost use Rattle.run_heap.specs.Works.{Works};
@@ -30,6 +31,8 @@ impl RunHeap {
         ensures did { Works (λ nu. step (charge units) give) (λ nu. told (λ u. u) result) self.old self.new }
         ensures rests { Rests self.old self.new }
         ensures cells { self.new.cells ≡ self.old.cells }
+        ensures paid { OnOk result ((units ≤ self.old.left) × (self.new ≡ record self.old { left = self.old.left - units })) }
+        ensures spent { IfErr result (λ e. (e ≡ OpStop.Spent) × (self.old.left < units) × (self.new ≡ self.old)) }
     {
         if self.left < units {
             return Err(OpStop::Spent);
@@ -65,6 +68,7 @@ impl RunHeap {
         ensures did { Works (λ nu. step (change true (nu cell) (look_at key.now)) give) (λ nu. told (option_map (val_in nu)) result) self.old self.new }
         ensures rests { Rests self.old self.new }
         ensures cells { self.new.cells ≡ self.old.cells }
+        ensures value { IfOk result (λ v. v ≡ own self.old.cells.now cell key.now) }
         ensures exists { IfOk result (λ v. option_needs v ≤ count self.new) }
     {
         self.cells.known();
@@ -116,5 +120,77 @@ impl RunHeap {
             .wrote_shape(cell, &self.place.branch, &maker.scope)?;
         self.cells.create(cell, key, value)?;
         Ok(())
+    }
+
+    /// Sets a cell's own property, or creates it last, which costs 1.
+    pub fn set(&mut self, cell: u32, key: &Units, value: Value) -> Result<(), OpStop>
+        requires cell { cell < count self.old }
+        requires value { needs value ≤ count self.old }
+        ensures did { Works (λ nu. step (change true (nu cell) (put_at key.now (val_in nu value))) give) (λ nu. told (λ u. u) result) self.old self.new }
+        ensures rests { Rests self.old self.new }
+        ensures count { count self.new ≡ count self.old }
+    {
+        self.known();
+        if self.has(cell, key) {
+            return self.set_there(cell, key, value);
+        }
+        self.pay(1)?;
+        self.create(cell, key, value)
+    }
+
+    /// Deletes a cell's own property that is there.
+    pub fn drop_there(&mut self, cell: u32, key: &Units) -> Result<(), OpStop>
+        requires cell { cell < count self.old }
+        requires there { IsSome (own self.old.cells.now cell key.now) }
+        ensures did { Works (λ nu. step (change true (nu cell) (remove_at key.now)) give) (λ nu. told (λ u. u) result) self.old self.new }
+        ensures rests { Rests self.old self.new }
+        ensures count { count self.new ≡ count self.old }
+    {
+        self.cells.known();
+        let _keys = self.cells.keys(cell);
+        let maker = self.cells.name(cell);
+        self.slots
+            .wrote(cell, key, &self.place.branch, &maker.scope)?;
+        self.slots
+            .wrote_shape(cell, &self.place.branch, &maker.scope)?;
+        self.cells.delete(cell, key)?;
+        Ok(())
+    }
+
+    // touches the shape for a key that is missing
+    fn drop_missing(&mut self, cell: u32, key: &Units)
+        requires cell { cell < count self.old }
+        requires missing { own self.old.cells.now cell key.now ≡ None }
+        ensures did { Works (λ nu. step (change true (nu cell) (remove_at key.now)) give) (λ nu. Says tt) self.old self.new }
+        ensures rests { Rests self.old self.new }
+        ensures count { count self.new ≡ count self.old }
+    {
+        self.cells.known();
+        self.slots.touch_shape(cell, &self.place.branch);
+    }
+
+    /// Deletes a cell's own property, if it is there.
+    pub fn drop_key(&mut self, cell: u32, key: &Units) -> Result<(), OpStop>
+        requires { cell < count self.old }
+        ensures did { Works (λ nu. step (change true (nu cell) (remove_at key.now)) give) (λ nu. told (λ u. u) result) self.old self.new }
+        ensures rests { Rests self.old self.new }
+        ensures count { count self.new ≡ count self.old }
+    {
+        if self.has(cell, key) {
+            return self.drop_there(cell, key);
+        }
+        self.drop_missing(cell, key);
+        Ok(())
+    }
+
+    /// Touches a cell's shape, as the listing of its keys does.
+    pub fn touch_keys(&mut self, cell: u32)
+        requires { cell < count self.old }
+        ensures did { Works (λ nu. step (change true (nu cell) list_all) give) (λ nu. Says (keys_of (props_at self.old.cells.now cell))) self.old self.new }
+        ensures rests { Rests self.old self.new }
+        ensures cells { self.new.cells ≡ self.old.cells }
+    {
+        self.cells.known();
+        self.slots.touch_shape(cell, &self.place.branch);
     }
 }
