@@ -1,3 +1,4 @@
+pub mod Accesses_facts
 pub mod Acts
 pub mod Chains
 pub mod Keys

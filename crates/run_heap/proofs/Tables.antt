@@ -158,3 +158,6 @@ module _ (nu : Naming) (cells : List Cell) (apart : TellsApart nu (length cells)
       let e = λ (m : Name). ap (λ n. table nu g [] n m) (count-with cells i ps)
           ∙ table_set nu [] (length cells) apart f g i (placed.props_in nu ps) (ap (placed.props_in nu) (at_same cells i ps here)) (λ j h. ap (placed.props_in nu) (at_other cells i j ps h)) (length cells) here (omega arith) m in
       λ x m. e m x
+
+pub kind_there : (cells : List Cell) (i : ℕ) → i < length cells → (kind : CellKind) × (slice_get (kinds_of cells) i ≡ Some kind)
+kind_there cells i h = there (kinds_of cells) i (omega (arith, h, length-map cells (λ c. c.kind)))

@@ -38,3 +38,6 @@ rests_then s t u x y = record {
   branch = y.branch ∙ x.branch;
   outer = y.outer ∙ x.outer;
 }
+
+pub rests_same : (c : Core) → Rests c c
+rests_same c = record { cells = refl; slots = record { marks = refl; meaning = λ nu i k e. refl }; path = refl; branch = refl; outer = refl }

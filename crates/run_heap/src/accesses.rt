@@ -10,6 +10,7 @@ ghost use Rattle.value_cells.specs.Seen.{val_in};
 ghost use Rattle.value_cells.specs.Does.{told};
 ghost use Rattle.run_heap.specs.Core.{count, Rests};
 ghost use Rattle.run_heap.specs.Placed.{chain_of};
+ghost use Rattle.run_heap.specs.Stays.{stays_in};
 ghost use Rattle.run_heap.specs.Works.{Works};
 
 use crate::RunHeap;
@@ -23,15 +24,28 @@ const LENGTH: [u16; 6] = [108, 101, 110, 103, 116, 104];
 const PROTOTYPE: [u16; 9] = [112, 114, 111, 116, 111, 116, 121, 112, 101];
 
 fn is_length(key: &Units) -> bool
-    ensures { result ≡ key_eq key.now length_key }
+    ensures { result ≡ key_eq length_key key.now }
 {
-    key.as_slice() == LENGTH.as_slice()
+    LENGTH.as_slice() == key.as_slice()
 }
 
 fn is_prototype(key: &Units) -> bool
-    ensures { result ≡ key_eq key.now prototype_key }
+    ensures { result ≡ key_eq prototype_key key.now }
 {
-    key.as_slice() == PROTOTYPE.as_slice()
+    PROTOTYPE.as_slice() == key.as_slice()
+}
+
+// whether the key can't be deleted of a cell of that kind
+fn stays(kind: CellKind, key: &Units) -> bool
+    ensures { result ≡ stays_in kind key.now }
+{
+    match kind {
+        CellKind::Plain(_) => false,
+        CellKind::Frame(_) => false,
+        CellKind::Array => is_length(key),
+        CellKind::Function(_, _) => is_prototype(key),
+        CellKind::BuiltIn(_) => is_prototype(key),
+    }
 }
 
 impl RunHeap {
@@ -92,14 +106,8 @@ impl RunHeap {
         ensures count { count self.new ≡ count self.old }
     {
         self.known();
-        let stays = match *self.kind(cell) {
-            CellKind::Plain(_) => false,
-            CellKind::Frame(_) => false,
-            CellKind::Array => is_length(key),
-            CellKind::Function(_, _) => is_prototype(key),
-            CellKind::BuiltIn(_) => is_prototype(key),
-        };
-        if stays {
+        let kind = *self.kind(cell);
+        if stays(kind, key) {
             return Ok(false);
         }
         self.take_out(cell, key)
