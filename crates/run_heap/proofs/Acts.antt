@@ -5,7 +5,7 @@ use Rattle.std.proofs.lemmas.Option.{slice_get_within}
 use Rattle.turk_base.specs.Names.{Path, path_in, Name, pick, under, home}
 use Rattle.turk_base.specs.Values.{Val, Property, Known, Kind, Refusal}
 use Rattle.turk_base.specs.Cells.{Edit, SaysOf, says, new_props, edit_cost, touches, writes}
-use Rattle.turk_base.specs.State.{St, Op, charge, change, AnswerTo, Act, gives, refused, waiting, stuck, act, act_known, act_change, op_cost, edited, if_paid, with_props, touch_all, write_all}
+use Rattle.turk_base.specs.State.{St, Op, charge, change, make, act_make, AnswerTo, Act, gives, refused, waiting, stuck, act, act_known, act_change, op_cost, edited, if_paid, with_props, touch_all, write_all}
 use Rattle.turk_base.specs.Steps.{Small, give, refuse, lost, step, ask, bind}
 use Rattle.branch_check.specs.Watch.{Watch}
 use Rattle.value_cells.specs.declared.OpStop.{OpStop}
@@ -116,3 +116,20 @@ paid_same c e s b body σ n cost h =
     let go = λ (m : ℕ). then_goes (acted (act (change true c e) s b body σ) m) (λ a τ m. comes (give a) s b body τ m) in
     ap (λ t. charged t (edit_cost e (σ.props c)) σ n (go (n - edit_cost e (σ.props c)))) t ∙ ap (λ k. go (n - k)) cost
     ∙ sym (free_act c e s b body σ (n - 1) u z)
+
+free_make : (kind : Kind) (s b : Path) (body : Bool) (σ : St) (m : ℕ) → nat_lt m 0 ≡ false → m - 0 ≡ m
+    → comes (step (make false kind) give) s b body σ m ≡ then_goes (acted (act (make true kind) s b body σ) m) (λ a τ m. comes (give a) s b body τ m)
+unfolding comes act
+free_make kind s b body σ m u z =
+    let go = λ (k : ℕ). then_goes (acted (act_make s kind σ) k) (λ a τ m. goes a τ m) in
+    ap (λ t. charged t 0 σ m (go (m - 0))) u ∙ ap go z
+
+-- a made cell is paid first
+pub made_same : (kind : Kind) (s b : Path) (body : Bool) (σ : St) (n : ℕ) → 1 ≤ n → comes (step (make true kind) give) s b body σ n ≡ comes (step (make false kind) give) s b body σ (n - 1)
+unfolding comes
+made_same kind s b body σ n h =
+    let t : nat_lt n 1 ≡ false = grind (arith, nat_tests) in
+    let u : nat_lt (n - 1) 0 ≡ false = grind (arith, nat_tests) in
+    let z : (n - 1) - 0 ≡ n - 1 = omega arith in
+    let go = λ (m : ℕ). then_goes (acted (act (make true kind) s b body σ) m) (λ a τ m. comes (give a) s b body τ m) in
+    ap (λ t. charged t 1 σ n (go (n - 1))) t ∙ sym (free_make kind s b body σ (n - 1) u z)

@@ -3,6 +3,7 @@ pub mod Acts
 pub mod Chains
 pub mod Keys
 pub mod Look
+pub mod Made
 pub mod Tables
 pub mod Turn
 pub mod Watches
