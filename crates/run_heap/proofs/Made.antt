@@ -33,7 +33,7 @@ use Rattle.slot_watch.specs.Within.{CellsWithin}
 use Rattle.slot_watch.proofs.Renaming.{holds_of}
 use Rattle.value_cells.specs.Does.{Spends, Did}
 use Rattle.run_heap.specs.Whole.{IsCore}
-use Rattle.run_heap.proofs.Tables.{path_apart}
+use Rattle.run_heap.proofs.Tables.{path_apart, name_at}
 use Rattle.run_heap.proofs.Turn.{works_spends}
 use Rattle.run_heap.proofs.Acts.{step_goes, step_spends, made_same}
 
@@ -261,3 +261,7 @@ make_paid old new kind said h y = record {
             (sym (made_same (kind_in nu kind) (path_in old.place.path) (path_in old.place.branch) r.body (placed nu old (r.base nu)) old.left h)) (l.did nu fits);
       };
 }
+
+-- the next name is new
+pub fresh_name : (core : Core) → IsCore core → (n : CellName) → n.scope ≡ core.place.path → n.number ≡ core.place.made → (i : ℕ) → slice_get (names_of core.cells.now) i ≡ Some n → ⊥
+fresh_name core k n scope number i e = let o = k.own.own i (name_in n) (name_at core.cells.now i n e) (ap path_in scope) in omega (arith, o, number)

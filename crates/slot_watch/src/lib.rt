@@ -8,6 +8,8 @@ use std::marker::Model;
 
 mod calls;
 mod keys;
+#[cfg(test)]
+mod tests;
 
 /// Open slots and a verdict, with the keys that slots are told by, which can be taken back to what
 /// they were at a mark.
