@@ -1,5 +1,5 @@
 //! The calls of SlotWatch.
-ghost use Rattle.std.specs.Prelude.{◌≡◌, ◌<◌, [], ◌∷◌, ◌++◌, ℕ, length, IfOk, OnOk, IfSome};
+ghost use Rattle.std.specs.Prelude.{◌≡◌, ◌<◌, [], ◌∷◌, ◌++◌, ℕ, length, IfOk, OnOk, OnErr, IfSome};
 ghost use Rattle.turk_base.specs.Names.{path_in, shape, at, slot};
 ghost use Rattle.turk_base.specs.State.{independent};
 ghost use Rattle.branch_check.specs.Watch.{Kept, verdict_of, after_touch, after_once, after_write, after_join, after_throw};
@@ -64,13 +64,7 @@ impl SlotWatch {
 
     /// The branch `by` writes a cell's value under a key, the cell being made in the scope `maker`.
     /// After a refusal nothing is known of what is open now.
-    pub fn wrote(
-        &mut self,
-        cell: u32,
-        key: &Units,
-        by: &Path,
-        maker: &Path,
-    ) -> Result<(), NoMemory>
+    pub fn wrote(&mut self, cell: u32, key: &Units, by: &Path, maker: &Path) -> Result<(), NoMemory>
         ensures now { (n : ℕ) → cell < n → CellsWithin n self.old.current → OnOk result (Turns (λ nu w. after_write (path_in by.now) (path_in maker.now) (slot (nu cell) (at key.now)) w) n self.old self.new) }
         ensures within { (n : ℕ) → cell < n → CellsWithin n self.old.current → CellsWithin n self.new.current }
         ensures marks { KeepsMarks self.old self.new }
@@ -111,6 +105,7 @@ impl SlotWatch {
     /// Branches join in the scope. After a refusal nothing changed.
     pub fn joined(&mut self, scope: &Path) -> Result<(), NoMemory>
         ensures now { (n : ℕ) → OnOk result (Turns (λ nu w. after_join (path_in scope.now) w) n self.old self.new) }
+        ensures err { OnErr result (self.new ≡ self.old) }
         ensures within { (n : ℕ) → CellsWithin n self.old.current → CellsWithin n self.new.current }
         ensures marks { KeepsMarks self.old self.new }
     {
@@ -120,6 +115,7 @@ impl SlotWatch {
     /// The branch ended by a throw. After a refusal nothing changed.
     pub fn threw(&mut self, branch: &Path) -> Result<(), NoMemory>
         ensures now { (n : ℕ) → OnOk result (Turns (λ nu w. after_throw (path_in branch.now) w) n self.old self.new) }
+        ensures err { OnErr result (self.new ≡ self.old) }
         ensures within { (n : ℕ) → CellsWithin n self.old.current → CellsWithin n self.new.current }
         ensures marks { KeepsMarks self.old self.new }
     {
@@ -130,6 +126,7 @@ impl SlotWatch {
     pub fn mark(&mut self) -> Result<MonitorMark, NoMemory>
         ensures ok { OnOk result (self.new.marks ≡ self.old.marks ++ self.old.current ∷ []) }
         ensures mark { IfOk result (λ mark. mark ≡ length self.new.marks) }
+        ensures err { OnErr result (self.new ≡ self.old) }
         ensures now { self.new.current ≡ self.old.current }
         ensures keys { self.new.keys ≡ self.old.keys }
     {

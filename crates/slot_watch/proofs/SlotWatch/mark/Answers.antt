@@ -16,6 +16,6 @@ invariant_of-self c =
       current = subst (λ k. KeysWithin (length a.keys) k) (sym c.mark.ensures.now) c.self.invariant.current;
       marks = either_mark c.mark.result c.mark.ensures.ok c.mark.ensures.err
           (λ e. marks_same (KeysWithin (length a.keys)) (a.monitor.marks ++ a.monitor.current ∷ []) c.mark.new.self.marks e
-              (λ i k f. pushed (λ i k. KeysWithin (length a.keys) k) a.monitor.marks a.monitor.current c.self.invariant.marks c.self.invariant.current i k f))
+          (λ i k f. pushed (λ i k. KeysWithin (length a.keys) k) a.monitor.marks a.monitor.current c.self.invariant.marks c.self.invariant.current i k f))
           (λ e. marks_same (KeysWithin (length a.keys)) a.monitor.marks c.mark.new.self.marks e c.self.invariant.marks);
     }

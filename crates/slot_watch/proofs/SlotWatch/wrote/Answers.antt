@@ -19,5 +19,5 @@ returns-then-len-eq0-clause-now c = λ n here w.
     record {
       now = λ nu tells. t.now nu tells
           ∙ subst (λ b. after_touch b (slot (nu c.args.cell) (at c.args.key.now)) (named nu c.args.self.now.keys c.args.self.now.current) ≡ after_write b (path_in c.args.maker.now) (slot (nu c.args.cell) (at c.args.key.now)) (named nu c.args.self.now.keys c.args.self.now.current)) (sym e)
-              (sym (by_root (path_in c.args.maker.now) (slot (nu c.args.cell) (at c.args.key.now)) (named nu c.args.self.now.keys c.args.self.now.current)));
+          (sym (by_root (path_in c.args.maker.now) (slot (nu c.args.cell) (at c.args.key.now)) (named nu c.args.self.now.keys c.args.self.now.current)));
     }

@@ -16,9 +16,9 @@ invariant_of-self c =
     let n : c.in-Some.number ≡ suc c.len-place.result = c.in-Some.ensures ∙ omega arith in
     elim c.match-insert_at.branch [
       | in-Ok w ↦ record {
-          numbered = numbered_more c.self.inside.entries c.insert_at.new.self c.in_ok-key.key c.len-place.result c.in-Some.number n c.len-place.ensures.len w.in-Ok.ensures.ok c.self.invariant.numbered;
-          distinct = distinct_more c.self.inside.entries c.insert_at.new.self c.in_ok-key.key c.len-place.result c.in-Some.number n c.len-place.ensures.len w.in-Ok.ensures.ok c.self.invariant.distinct fresh;
-        }
+        numbered = numbered_more c.self.inside.entries c.insert_at.new.self c.in_ok-key.key c.len-place.result c.in-Some.number n c.len-place.ensures.len w.in-Ok.ensures.ok c.self.invariant.numbered;
+        distinct = distinct_more c.self.inside.entries c.insert_at.new.self c.in_ok-key.key c.len-place.result c.in-Some.number n c.len-place.ensures.len w.in-Ok.ensures.ok c.self.invariant.distinct fresh;
+      }
       | in-Err w ↦ subst (λ es. IsTable (record { entries = es })) (sym w.in-Err.ensures.err) c.self.invariant
     ]
 
