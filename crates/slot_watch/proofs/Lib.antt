@@ -1,0 +1,3 @@
+pub mod KeyFacts
+pub mod Naming
+pub mod Renaming
