@@ -1,19 +1,20 @@
 -- Lists of statements.
-use Rattle.std.specs.Prelude.{Ok, Err, Result}
-use Rattle.std.proofs.Common.{◌≡◌, ◌≢◌, ◌≤◌, ◌<◌, ◌+◌, ◌∙◌, ℕ, List, [], ◌∷◌, length, get_or, drop, refl, sym, ap, subst, arith, add-one, drop-cons}
+use Rattle.std.specs.Prelude.{Ok}
+use Rattle.std.proofs.Common.{◌≡◌, ◌≢◌, ◌≤◌, ◌<◌, ◌+◌, ◌∙◌, ℕ, List, length, get_or, drop, refl, sym, ap, subst, add-one, drop-cons}
 use Rattle.std.proofs.Math.ListN.{drop_of_length-le}
 use Rattle.js_tree.specs.declared.Stmt.{Stmt}
+use Rattle.js_tree.specs.declared.Expr.{Expr}
+use Rattle.js_tree.specs.Statements.{continued}
 use Rattle.js_tree.specs.Pieces.{Here}
 use Rattle.js_tree.specs.Calls.{Code, list}
-use Rattle.turk_base.specs.Prog.{Prog, Then}
-use Rattle.turk_base.specs.Values as model
+use Rattle.turk_base.specs.Prog.{Prog, Done, Then}
 use Rattle.value_cells.specs.Seen.{Naming}
 use Rattle.run_laws.proofs.Sequel.{NotNormal}
 use Rattle.run_host.specs.declared.Exit.{Exit}
 use Rattle.run_host.specs.declared.Flow.{Flow}
 use Rattle.run_host.specs.declared.Flow.TheVariants as flow
 use Rattle.run_host.specs.Moment.{Moment}
-use Rattle.run_host.specs.Told.{Says, told_exit, told_flow, flow_in}
+use Rattle.run_host.specs.Told.{told_exit, told_flow, flow_in}
 use Rattle.run_host.specs.Did.{Runs}
 use Rattle.run_host.specs.Steps.{Onward}
 use Rattle.run_host.proofs.Sequence.{then_on, then_out, ends_with, onward_then}
@@ -29,6 +30,13 @@ not_normal nu flow.Normal n = absurd (n refl)
 not_normal nu flow.Break n = tt
 not_normal nu flow.Continue n = tt
 not_normal nu (flow.Return v) n = tt
+
+-- a loop goes on where its body ends with `continue`, and passes on any other end
+pub passes_on : (table : List Code) (expr : Here → Expr → Prog) (stmt : Here → Stmt → Prog) (nu : Naming) (f : Flow) → f ≢ flow.Continue → continued table expr stmt (flow_in nu f) ≡ Done (flow_in nu f)
+passes_on table expr stmt nu flow.Normal n = refl
+passes_on table expr stmt nu flow.Break n = refl
+passes_on table expr stmt nu flow.Continue n = absurd (n refl)
+passes_on table expr stmt nu (flow.Return v) n = refl
 
 -- Statements from the place i on, in a frame of the code.
 module _ (table : List Code) (stmt : Here → Stmt → Prog) (here : Naming → Here) (all : List Stmt) (i : ℕ) where
