@@ -3,6 +3,7 @@
 
 mod below;
 mod codes;
+mod loops;
 mod statements;
 mod values;
 

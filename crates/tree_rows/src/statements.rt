@@ -96,7 +96,7 @@ impl<
     }
 
     /// The body of a loop: where it ends with `continue`, the loop goes on (12.7).
-    fn body(&self, codes: &Codes, host: &mut H, here: Here, s: &Stmt) -> Result<Flow, Exit>
+    pub fn body(&self, codes: &Codes, host: &mut H, here: Here, s: &Stmt) -> Result<Flow, Exit>
         requires below { Nests H H.moment H.is_sound (table_in codes.now) self.now.left (E.pre self.now.expr) (E.post self.now.expr) (S.pre self.now.stmt) (S.post self.now.stmt) }
         requires sound { H.is_sound host.old }
         requires here { here_needs here ≤ cells (H.moment host.old) }
@@ -138,13 +138,7 @@ impl<
     }
 
     /// `throw` (12.13).
-    pub fn throwing(
-        &self,
-        codes: &Codes,
-        host: &mut H,
-        here: Here,
-        e: &Expr,
-    ) -> Result<Flow, Exit>
+    pub fn throwing(&self, codes: &Codes, host: &mut H, here: Here, e: &Expr) -> Result<Flow, Exit>
         requires below { Nests H H.moment H.is_sound (table_in codes.now) self.now.left (E.pre self.now.expr) (E.post self.now.expr) (S.pre self.now.stmt) (S.post self.now.stmt) }
         requires sound { H.is_sound host.old }
         requires here { here_needs here ≤ cells (H.moment host.old) }

@@ -23,4 +23,4 @@ pub returns-in_default-clause-ran : goal.returns-in_default-clause-ran
 returns-in_default-clause-ran g c =
     let t = table_in c.args.codes.now in
     always_done (λ nu. continued t (expr_to t c.args.self.now.left) (stmt_to t c.args.self.now.left))
-      (λ nu. passes_on t (expr_to t c.args.self.now.left) (stmt_to t c.args.self.now.left) nu c.in_ok-other.other c.in_default.not-Continue) c.in_ok-other.ensures.ran
+    (λ nu. passes_on t (expr_to t c.args.self.now.left) (stmt_to t c.args.self.now.left) nu c.in_ok-other.other c.in_default.not-Continue) c.in_ok-other.ensures.ran

@@ -17,7 +17,7 @@ unfolding if_row
 returns-in_err-value-clause-ran g c =
     let t = table_in c.args.codes.now in
     flow_exit _ _ c.from_residual.ensures.1 (first_out (λ nu v. choose (truth v) (stmt_to t c.args.self.now.left (here_in nu c.args.here) c.args.a.now)
-      (optional t (expr_to t c.args.self.now.left) (stmt_to t c.args.self.now.left) (here_in nu c.args.here) (option_copied c.args.b))) _ c.in_err-value.ensures.ran)
+    (optional t (expr_to t c.args.self.now.left) (stmt_to t c.args.self.now.left) (here_in nu c.args.here) (option_copied c.args.b))) _ c.in_err-value.ensures.ran)
 
 pub returns-then-truth-clause-ran : goal.returns-then-truth-clause-ran
 unfolding if_row
@@ -26,7 +26,7 @@ returns-then-truth-clause-ran g c =
     let a = λ (nu : Naming). stmt_to t c.args.self.now.left (here_in nu c.args.here) c.args.a.now in
     let b = λ (nu : Naming). optional t (expr_to t c.args.self.now.left) (stmt_to t c.args.self.now.left) (here_in nu c.args.here) (option_copied c.args.b) in
     then_on (λ nu v. choose (truth v) (a nu) (b nu)) c.in_ok-value.ensures.ran
-      ((onward_eq (λ nu. ap (λ x. choose x (a nu) (b nu)) (c.truth.ensures nu ∙ c.if-truth.true))).goes (λ nu. told_flow nu c.stmt.result) (g.H.Host.moment c.stmt.new.host) c.stmt.ensures.ran)
+    ((onward_eq (λ nu. ap (λ x. choose x (a nu) (b nu)) (c.truth.ensures nu ∙ c.if-truth.true))).goes (λ nu. told_flow nu c.stmt.result) (g.H.Host.moment c.stmt.new.host) c.stmt.ensures.ran)
 
 pub returns-clause-ran : goal.returns-clause-ran
 unfolding if_row
@@ -35,4 +35,4 @@ returns-clause-ran g c =
     let a = λ (nu : Naming). stmt_to t c.args.self.now.left (here_in nu c.args.here) c.args.a.now in
     let b = λ (nu : Naming). optional t (expr_to t c.args.self.now.left) (stmt_to t c.args.self.now.left) (here_in nu c.args.here) (option_copied c.args.b) in
     then_on (λ nu v. choose (truth v) (a nu) (b nu)) c.in_ok-value.ensures.ran
-      ((onward_eq (λ nu. ap (λ x. choose x (a nu) (b nu)) (c.truth.ensures nu ∙ c.if-truth.false))).goes (λ nu. told_flow nu c.optional.result) (g.H.Host.moment c.optional.new.host) c.optional.ensures.ran)
+    ((onward_eq (λ nu. ap (λ x. choose x (a nu) (b nu)) (c.truth.ensures nu ∙ c.if-truth.false))).goes (λ nu. told_flow nu c.optional.result) (g.H.Host.moment c.optional.new.host) c.optional.ensures.ran)
