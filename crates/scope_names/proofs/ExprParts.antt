@@ -28,7 +28,7 @@ use Rattle.js_tree.specs.NameCount.{expr_count, stmt_count, declaration_count, c
 use Rattle.scope_names.specs.declared.walk.Walk.{Walk}
 use Rattle.scope_names.specs.Walks.{Part, Kind, Resolves, list_kind, option_kind}
 use Rattle.scope_names.specs.Kinds.{expr_kind, field_kind, key_kind, body_kind}
-use Rattle.scope_names.proofs.Parts.{none, two, three, raised}
+use Rattle.scope_names.proofs.WalkParts.{none, two, three, raised}
 
 pub below : (m : ℕ) → suc (m + m) ≤ suc m + suc m
 below m = omega arith

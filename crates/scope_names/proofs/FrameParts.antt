@@ -31,7 +31,7 @@ use Rattle.scope_names.specs.Gathered.{collected}
 use Rattle.scope_names.specs.Walks.{Sits, Moves, Part, Kind, Resolves, Numbers, Enters, LeavesFrame, list_kind, option_kind}
 use Rattle.scope_names.specs.Kinds.{expr_kind, stmt_kind, declaration_kind, body_kind, catch_kind}
 use Rattle.scope_names.proofs.NameLemmas.{length-gathered}
-use Rattle.scope_names.proofs.Parts.{two, said, recounted}
+use Rattle.scope_names.proofs.WalkParts.{two, said, recounted}
 use Rattle.scope_names.proofs.ExprParts.{expr_at}
 use Rattle.scope_names.proofs.StmtParts.{block_kept}
 

@@ -1,7 +1,7 @@
 pub mod NameLemmas
 pub mod ScopeLemmas
 pub mod HoistLemmas
-pub mod Parts
+pub mod WalkParts
 pub mod ExprParts
 pub mod BindLemmas
 pub mod StmtParts

@@ -36,7 +36,7 @@ use Rattle.scope_names.specs.Walks.{Sits, Moves, Part, Kind, Resolves, NameBound
 use Rattle.scope_names.specs.Kinds.{expr_kind, stmt_kind, declaration_kind, body_kind, key_kind, field_kind, variable_kind, start_kind, target_kind, case_kind, catch_kind}
 use Rattle.scope_names.proofs.NameLemmas.{length-gathered}
 use Rattle.scope_names.proofs.BindLemmas.{binds_of}
-use Rattle.scope_names.proofs.Parts.{still, none, two, said, recounted}
+use Rattle.scope_names.proofs.WalkParts.{still, none, two, said, recounted}
 use Rattle.scope_names.proofs.ExprParts.{expr_at, target_kept}
 use Rattle.scope_names.proofs.StmtParts.{var_kept}
 

@@ -16,7 +16,7 @@ use Rattle.scope_names.specs.Gathered.{collected}
 use Rattle.scope_names.specs.Walks.{Sits, Moves, Part, Resolves, Enters, ScriptBound, list_kind}
 use Rattle.scope_names.specs.Kinds.{stmt_kind, declaration_kind}
 use Rattle.scope_names.proofs.NameLemmas.{length-gathered}
-use Rattle.scope_names.proofs.Parts.{two}
+use Rattle.scope_names.proofs.WalkParts.{two}
 use Rattle.scope_names.proofs.FrameParts.{frame_kept}
 
 counted_all : (a b c k l n : ℕ) → a ≡ 0 → k ≡ l → min b 65536 ≡ min (a + k) 65536 → min c 65536 ≡ min (b + n) 65536 → min c 65536 ≡ min (l + n) 65536

@@ -25,7 +25,7 @@ use Rattle.js_tree.specs.NameCount.{expr_count, stmt_count, declaration_count, c
 use Rattle.scope_names.specs.declared.walk.Walk.{Walk}
 use Rattle.scope_names.specs.Walks.{Part, Kind, Resolves, list_kind, option_kind}
 use Rattle.scope_names.specs.Kinds.{expr_kind, stmt_kind, variable_kind, start_kind, target_kind, case_kind, catch_kind}
-use Rattle.scope_names.proofs.Parts.{none, two, three, four, raised}
+use Rattle.scope_names.proofs.WalkParts.{none, two, three, four, raised}
 use Rattle.scope_names.proofs.ExprParts.{below}
 
 -- ---- what bindings don't touch

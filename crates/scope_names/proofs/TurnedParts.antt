@@ -11,7 +11,7 @@ use Rattle.scope_names.specs.declared.NoRoom.{NoRoom}
 use Rattle.scope_names.specs.Gathered.{gathered, collected}
 use Rattle.scope_names.specs.Walks.{Kind, Resolves, Enters, option_kind}
 use Rattle.scope_names.specs.Kinds.{expr_kind, stmt_kind, body_kind}
-use Rattle.scope_names.proofs.Parts.{option_some, option_none}
+use Rattle.scope_names.proofs.WalkParts.{option_some, option_none}
 
 pub renamed : {A : Type 0} (kind : Kind A) {w w' : Walk} {x y z : A} → z ≡ y → Resolves kind w x y w' → Resolves kind w x z w'
 renamed kind {w} {w'} {x} e r = subst (λ a. Resolves kind w x a w') (sym e) r

@@ -1,6 +1,6 @@
 use Rattle.scope_names.specs.Kinds.{field_kind}
 use Rattle.scope_names.specs.Walks.{Resolves, list_kind}
-use Rattle.scope_names.proofs.Parts.{list_none, list_step, list_end}
+use Rattle.scope_names.proofs.WalkParts.{list_none, list_step, list_end}
 use Rattle.scope_names.proofs.TurnedParts.{renamed}
 use Rattle.scope_names.proofs.parts.Below.fields.Goals as goal
 
