@@ -1,0 +1,3 @@
+pub mod Hungry
+pub mod Joints
+pub mod Turns

@@ -1,0 +1,14 @@
+pub mod Generic
+pub mod Table
+pub mod Along
+pub mod TooDeep
+pub mod Repeated
+pub mod Meaning
+pub mod Paths
+pub mod Rows
+pub mod FromTable
+pub mod Tokens
+pub mod ToTable
+pub mod Agree
+pub mod Sentences
+pub mod IntoStates

@@ -1,0 +1,13 @@
+pub mod Words
+pub mod Exprs
+pub mod Stmts
+pub mod Starts
+pub mod Targets
+pub mod Rules
+pub mod Grammar
+pub mod Goes
+pub mod Meets
+pub mod Claims
+pub mod Paths
+pub mod Productions
+pub mod States
