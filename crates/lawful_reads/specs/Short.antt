@@ -1,0 +1,18 @@
+-- Tokens of which no unit of a tree comes out too long.
+use Rattle.std.specs.Prelude.{List}
+use Rattle.std.specs.Fmt.{signed_decimal}
+use Rattle.js_lexer.specs.declared.Kind.{Kind}
+use Rattle.js_lexer.specs.declared.Kind.TheVariants as kind
+use Rattle.js_lexer.specs.declared.Token.{Token}
+use Rattle.js_tree.specs.Lawful.{Each, Short}
+
+-- a word, a text, or the decimal text of a number has at most 1,048,576 units
+abbrev pub ShortKind : Kind → Type 0
+ShortKind (kind.Word units) = Short units
+ShortKind (kind.Text units) = Short units
+ShortKind (kind.Number value) = Short (signed_decimal value)
+ShortKind _ = Unit {0}
+
+-- each token is such
+abbrev pub ShortTokens : List Token → Type 0
+ShortTokens ts = Each (λ t. ShortKind t.kind) ts
