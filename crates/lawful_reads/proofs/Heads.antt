@@ -1,6 +1,5 @@
 -- What comes of short tokens is short.
-use Rattle.std.proofs.Common.{◌≡◌, ◌≤◌, ℕ, Bool, true, false, List, Option, Some, None, length, refl, sym, ◌∙◌, subst, arith}
-use Rattle.std.specs.Fmt.{signed_decimal}
+use Rattle.std.proofs.Common.{◌≡◌, ℕ, List, Option, Some, None, subst, arith}
 use Rattle.js_lexer.specs.Words.{call_units}
 use Rattle.js_lexer.specs.declared.CallWord.{CallWord}
 use Rattle.js_lexer.specs.declared.CallWord.TheVariants as c

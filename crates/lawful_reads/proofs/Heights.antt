@@ -1,5 +1,5 @@
 -- What is read under a limit is no higher than the limit.
-use Rattle.std.proofs.Common.{◌≡◌, ◌≤◌, ◌+◌, ◌⊎◌, inl, inr, ℕ, zero, suc, max, Bool, true, false, not, ◌&&◌, ◌||◌, List, [], ◌∷◌, ◌++◌, Option, Some, None, Ok, Err, refl, ap, sym, arith}
+use Rattle.std.proofs.Common.{◌≡◌, ◌≤◌, ◌+◌, ◌⊎◌, inl, inr, ℕ, zero, suc, max, Bool, true, false, not, ◌&&◌, ◌||◌, List, [], ◌∷◌, ◌++◌, Option, Some, None, Ok, Err, refl, arith}
 use Rattle.js_lexer.specs.declared.Mark.{Mark}
 use Rattle.js_lexer.specs.declared.Mark.TheVariants as m
 use Rattle.js_lexer.specs.declared.Reserved.{Reserved}
@@ -40,7 +40,7 @@ use Rattle.script_grammar.specs.Words.{Units, is, is_word, is_end, closes, stops
 use Rattle.script_grammar.specs.Rules.{Context, Symbol, Value, Rule, Done, Outcome}
 use Rattle.script_grammar.specs.Rules.{Symbol as s}
 use Rattle.script_grammar.specs.Rules.Rule.{give, refuse, peek, eat, node, stand, read}
-use Rattle.script_grammar.specs.Grammar.{grammar, target, either, expect, expect_word, name_by, a_name, as_read, ends, parameters, function, halts, block, in_parentheses, loop, switch, decl_of, plain, a_member, after_if, jump, after_return, after_throw, for_body, for_step, for_test, for_in, for_decls, for_var, for_first, after_try, is_name, ends_identifier, statement_as, case_body, clauses, go_on, names, next_decl, decls, arguments, given_at, items, field_by, expr_after, assign_by, conditional_after, binary, more_by, delete_operand, unary_by, postfix_by, postfix_after, fixed, suffixes_by, deleted_level, deleted, deleted_step, deleted_end, deleted_by, with_suffixes, new_after, primary_by}
+use Rattle.script_grammar.specs.Grammar.{grammar, target, either, expect, expect_word, name_by, a_name, as_read, ends, parameters, function, halts, block, in_parentheses, loop, switch, decl_of, plain, a_member, after_if, jump, after_return, for_body, for_step, for_test, for_in, for_decls, for_var, for_first, after_try, is_name, statement_as, case_body, go_on, next_decl, given_at, field_by, expr_after, assign_by, conditional_after, binary, more_by, delete_operand, unary_by, postfix_by, fixed, suffixes_by, deleted_level, deleted_step, deleted_by, with_suffixes, new_after, primary_by}
 use Rattle.script_grammar.specs.Goes.{Goes}
 use Rattle.script_grammar.specs.Goes.Goes.{given, refused, peeked, eaten, stands, too_deep, begins, begins_deep, passed, failed, ends_refuse, ends_peek, ends_eat, ends_node, ends_stand}
 
@@ -210,8 +210,8 @@ for_named units = peeks (λ t. any (is_word w.In t) (eats (for_each (over.Var un
     (any (is m.Semicolon t) (nodes (for_tests (from.Var (decl_of units None ∷ []))))
     (any (is m.Comma t) (nodes (for_all (decl_of units None ∷ []) (omega arith)))
     (any (is m.Assign t) (nodes (deep tt (λ v i. peeks (λ u. any (is m.Comma u)
-        (eats (for_all (decl_of units (Some v.expr) ∷ []) (omega arith)))
-        (past m.Semicolon (for_tests (from.Var (decl_of units (Some v.expr) ∷ []))))))))
+    (eats (for_all (decl_of units (Some v.expr) ∷ []) (omega arith)))
+    (past m.Semicolon (for_tests (from.Var (decl_of units (Some v.expr) ∷ []))))))))
     refuses))))
 
 for_starts : {c : Context} {j : ℕ} → Steady (s.Statement c) j for_first

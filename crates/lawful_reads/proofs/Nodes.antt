@@ -1,5 +1,5 @@
 -- One node of a lawful tree, from lawful parts.
-use Rattle.std.proofs.Common.{◌≡◌, ◌≤◌, ◌+◌, ◌||◌, ℕ, zero, suc, Bool, true, false, List, [], ◌∷◌, Option, Some, None, length, count_by, cond, refl, sym, ap, ◌∙◌, subst, arith}
+use Rattle.std.proofs.Common.{◌≡◌, ◌≤◌, ◌+◌, ◌||◌, ℕ, zero, suc, Bool, true, false, List, [], ◌∷◌, Option, Some, None, count_by, cond, sym, ap, ◌∙◌, subst, arith}
 use Rattle.js_lexer.specs.declared.CallWord.{CallWord}
 use Rattle.js_lexer.specs.declared.CallWord.TheVariants as c
 use Rattle.js_tree.specs.declared.BinaryOperator.{BinaryOperator}

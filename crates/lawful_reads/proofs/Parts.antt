@@ -1,5 +1,5 @@
 -- What the productions read as expressions is lawful.
-use Rattle.std.proofs.Common.{◌≡◌, ◌≤◌, ◌<◌, ◌+◌, ℕ, zero, suc, max, Bool, true, false, List, [], ◌∷◌, Option, Some, None, refl, sym, arith}
+use Rattle.std.proofs.Common.{◌≤◌, ◌<◌, ℕ, zero, suc, List, [], ◌∷◌, Some, None, arith}
 use Rattle.js_tree.specs.declared.Fix.TheVariants as side
 use Rattle.js_tree.specs.declared.Script as script
 use Rattle.js_lexer.specs.declared.Token.{Token}

@@ -1,5 +1,5 @@
 -- The tokens of a script that is not too large are short.
-use Rattle.std.proofs.Common.{◌≡◌, ◌≤◌, ◌<◌, ◌+◌, ◌-◌, ◌/◌, ◌%◌, ◌^◌, ℕ, ℤ, pos, Bool, true, false, cond, List, [], ◌∷◌, ◌++◌, length, take, drop, refl, sym, ◌∙◌, ap, subst, length-append, append-nil, Option, Some, None, arith, slice_range, flat_map, encode_utf8, encode_utf8_all, nat_lt}
+use Rattle.std.proofs.Common.{◌≡◌, ◌≤◌, ◌+◌, ◌-◌, ◌/◌, ◌%◌, ◌^◌, ℕ, pos, Bool, true, false, cond, List, [], ◌∷◌, ◌++◌, length, take, drop, refl, sym, ◌∙◌, ap, subst, length-append, append-nil, Option, Some, None, arith, slice_range, flat_map, encode_utf8, encode_utf8_all, nat_lt}
 use Rattle.std.specs.Char.{len_utf8}
 use Rattle.std.specs.Char.Escape.{encode_utf16}
 use Rattle.std.specs.Fmt.{signed_decimal}

@@ -1,5 +1,5 @@
 -- What the productions read as statements, declarations and scripts is lawful.
-use Rattle.std.proofs.Common.{◌≡◌, ◌≤◌, ◌<◌, ◌+◌, ◌⊎◌, inl, inr, ℕ, zero, suc, max, Bool, true, false, List, [], ◌∷◌, Option, Some, None, count_by, refl, sym, subst, arith}
+use Rattle.std.proofs.Common.{◌≡◌, ◌≤◌, ◌<◌, ◌⊎◌, inl, inr, ℕ, zero, suc, true, false, List, ◌∷◌, Some, None, count_by, sym, subst, arith}
 use Rattle.std.proofs.Math.Nat.{eq-or-lt_of_le}
 use Rattle.js_tree.specs.declared.Script.{Script}
 use Rattle.js_lexer.specs.declared.Token.{Token}
@@ -7,7 +7,6 @@ use Rattle.js_tree.specs.Lawful.{Around, Each, IfThere, IsBlock, is_default, aro
 use Rattle.js_tree.specs.Trees.{catch_of}
 use Rattle.script_grammar.specs.Goes.{Reads as Read}
 use Rattle.script_grammar.specs.Rules.{Context}
-use Rattle.script_grammar.specs.Rules.{Symbol as symbol}
 use Rattle.script_grammar.specs.States.{Part, Of, States}
 use Rattle.script_grammar.specs.States.{Part as p}
 use Rattle.script_grammar.specs.States.{States as q}

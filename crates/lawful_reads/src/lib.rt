@@ -1,4 +1,5 @@
-//! What the grammar reads is a lawful script. No function here does anything: each names by its contract what is proved.
+//! What the grammar reads is a lawful script. No function here does anything: each names by its contract what is proved,
+//! so there is no body that an edit could make wrong.
 #![tactic(auto)]
 
 ghost use Rattle.lawful_reads.specs.Laws.{ReadIsLawful, ScriptIsLawful, TokensAreShort};
