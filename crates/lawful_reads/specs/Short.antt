@@ -1,4 +1,4 @@
--- Tokens of which no unit of a tree comes out too long.
+-- Tokens that make no name and no text of a tree too long.
 use Rattle.std.specs.Prelude.{List}
 use Rattle.std.specs.Fmt.{signed_decimal}
 use Rattle.js_lexer.specs.declared.Kind.{Kind}
@@ -13,6 +13,6 @@ ShortKind (kind.Text units) = Short units
 ShortKind (kind.Number value) = Short (signed_decimal value)
 ShortKind _ = Unit {0}
 
--- each token is such
+-- each token is short
 abbrev pub ShortTokens : List Token → Type 0
 ShortTokens ts = Each (λ t. ShortKind t.kind) ts
