@@ -1,5 +1,6 @@
 -- What comes of short tokens is short.
-use Rattle.std.proofs.Common.{◌≡◌, ℕ, List, Option, Some, None, subst, arith}
+use Rattle.std.proofs.Common.{◌≡◌, ◌≤◌, ◌+◌, ◌/◌, ◌%◌, ◌==◌, ℕ, zero, suc, ℤ, pos, negsuc, Bool, true, false, if◌then◌else◌, List, [], ◌∷◌, Option, Some, None, length, subst, arith}
+use Rattle.std.specs.Fmt.{digits, digits_onto, digit_glyph, decimal, signed_decimal}
 use Rattle.js_lexer.specs.Words.{call_units}
 use Rattle.js_lexer.specs.declared.CallWord.{CallWord}
 use Rattle.js_lexer.specs.declared.CallWord.TheVariants as c
@@ -48,6 +49,25 @@ name_short t units s e = subst ShortName e (kind_name t.kind s)
 
 -- ---- keys
 
+-- the decimal text of a number is its last 64 digits at most
+chosen : (b : Bool) (x y : List ℕ) (n : ℕ) → length x ≤ n → length y ≤ n → length (if b then x else y) ≤ n
+chosen true x y n e f = e
+chosen false x y n e f = f
+
+digits_le : (k base : ℕ) (upper : Bool) (n : ℕ) (after : List ℕ) → length (digits_onto k base upper n after) ≤ k + length after
+digits_le zero base upper n after = omega arith
+digits_le (suc k) base upper n after =
+    let glyph = digit_glyph upper (n % base) in let l = digits_le k base upper (n / base) (glyph ∷ after) in
+    chosen (n / base == 0) (glyph ∷ after) (digits_onto k base upper (n / base) (glyph ∷ after)) (suc k + length after) (omega arith) (omega arith)
+
+decimal_le : (n : ℕ) → length (decimal n) ≤ 64
+unfolding digits
+decimal_le n = let l = digits_le 64 10 false n [] in omega arith
+
+number_short : (z : ℤ) → Short (signed_decimal z)
+number_short (pos n) = let l = decimal_le n in omega arith
+number_short (negsuc n) = let l = decimal_le (suc n) in omega arith
+
 call_short : (word : CallWord) → Short (call_units word)
 unfolding call_units
 call_short c.Once = omega arith
@@ -82,7 +102,7 @@ unfolding literal_key_of
 kind_literal_key (kind.Word units) s = s
 kind_literal_key (kind.Reserved r) s = tt
 kind_literal_key (kind.Call word) s = call_short word
-kind_literal_key (kind.Number z) s = s
+kind_literal_key (kind.Number z) s = number_short z
 kind_literal_key (kind.Text units) s = s
 kind_literal_key (kind.Mark m) s = tt
 kind_literal_key kind.End s = tt

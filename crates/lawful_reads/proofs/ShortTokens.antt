@@ -1,10 +1,8 @@
 -- The tokens of a script that is not too large are short.
-use Rattle.std.proofs.Common.{◌≡◌, ◌≤◌, ◌+◌, ◌-◌, ◌/◌, ◌%◌, ◌^◌, ℕ, pos, Bool, true, false, cond, List, [], ◌∷◌, ◌++◌, length, take, drop, refl, sym, ◌∙◌, ap, subst, length-append, append-nil, Option, Some, None, arith, slice_range, flat_map, encode_utf8, encode_utf8_all, nat_lt}
+use Rattle.std.proofs.Common.{◌≡◌, ◌≤◌, ◌+◌, ◌-◌, ◌/◌, ◌%◌, ℕ, Bool, true, false, cond, List, [], ◌∷◌, ◌++◌, length, take, drop, refl, sym, ◌∙◌, ap, subst, length-append, append-nil, Option, Some, None, arith, slice_range, flat_map, encode_utf8, encode_utf8_all, nat_lt}
 use Rattle.std.specs.Char.{len_utf8}
 use Rattle.std.specs.Char.Escape.{encode_utf16}
-use Rattle.std.specs.Fmt.{signed_decimal}
 use Rattle.std.proofs.lemmas.Bool.Decides.{nat_tests}
-use Rattle.std.proofs.lemmas.Fmt.{length_signed_le}
 use Rattle.std.proofs.lemmas.List.{take-append-drop}
 use Rattle.std.proofs.lemmas.Str.{encodes-append, length-encode}
 use Rattle.js_lexer.specs.Tokens.{units_of, word_by, word_kind, StandsAs, Stands, Cut, done, step, token_of, Tokens}
@@ -69,14 +67,11 @@ word_short text us i j le e =
     let cs = slice_range text i j in
     subst (λ x. length x ≤ 1048576) (word_units (reserved_of cs) (call_of cs) cs us e) (let l = range_le text i j in omega arith)
 
-number_short : (n : ℕ) → n ≤ 2 ^ 53 → length (signed_decimal (pos n)) ≤ 1048576
-number_short n small = let l = length_signed_le 17 (pos n) (omega arith) (omega arith) in omega arith
-
 kind_short : (text : List ℕ) (k : Kind) (i j : ℕ) → length (encode_utf8_all text) ≤ 1048576 → StandsAs text k i j → ShortKind k
 kind_short text (kind.Word us) i j le h = word_short text us i j le h.is
 kind_short text (kind.Reserved r) i j le h = tt
 kind_short text (kind.Call c) i j le h = tt
-kind_short text (kind.Number z) i j le h = subst (λ y. length (signed_decimal y) ≤ 1048576) (sym h.1) (number_short h.0 h.2.small)
+kind_short text (kind.Number z) i j le h = tt
 kind_short text (kind.Text us) i j le h = h.small
 kind_short text (kind.Mark m) i j le h = tt
 kind_short text kind.End i j le h = tt

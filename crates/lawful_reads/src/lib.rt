@@ -4,7 +4,7 @@
 
 ghost use Rattle.lawful_reads.specs.Laws.{ReadIsLawful, ScriptIsLawful, TokensAreShort};
 
-/// What the grammar reads, at most 200 levels deep, of tokens whose words, texts and numbers are short is a lawful script:
+/// What the grammar reads, at most 200 levels deep, of tokens whose words and texts are short is a lawful script:
 /// `return`, `break` and `continue` stand in their places, targets are names or members, each `try` has a catch or a
 /// finally, each `switch` at most one default, no text or name is longer than 1,048,576 units, and no node or declaration
 /// is more than 200 deep.
