@@ -9,3 +9,4 @@ pub mod OtherParts
 pub mod FrameParts
 pub mod ScriptParts
 pub mod TurnedParts
+pub mod TwoParts

@@ -48,6 +48,18 @@ pub record Resolves {A : Type 0} (kind : Kind A) (before : Walk) (given made : A
   pub same : kind.bare made ≡ kind.bare given
   pub lawful : (around : Around) → kind.Lawful around given → kind.Lawful around made
 
+-- The walk made these two trees of those, one after the other.
+pub record ResolvesTwo {A B : Type 0} (first : Kind A) (second : Kind B) (before : Walk) (x : A) (y : B) (made : A) (then : B) (after : Walk) : Type 0 where
+  pub between : Walk
+  pub former : Resolves first before x made between
+  pub latter : Resolves second between y then after
+
+-- The walk made these three trees of those, one after the other.
+pub record ResolvesThree {A B C : Type 0} (first : Kind A) (second : Kind B) (third : Kind C) (before : Walk) (x : A) (y : B) (z : C) (made : A) (then : B) (last : C) (after : Walk) : Type 0 where
+  pub between : Walk
+  pub former : Resolves first before x made between
+  pub rest : ResolvesTwo second third between y z then last after
+
 abbrev pub list_kind : {A : Type 0} → Kind A → Kind (List A)
 list_kind kind = record {
   count = sum_by kind.count;

@@ -8,6 +8,7 @@ ghost use Rattle.js_tree.specs.Bare.{bare};
 ghost use Rattle.js_tree.specs.NameCount.{declared_count, name_limit};
 ghost use Rattle.scope_names.specs.Walks.{ScriptBound};
 
+mod drops;
 mod exprs;
 mod hoist;
 mod knot;

@@ -4,6 +4,7 @@ ghost use Rattle.scope_names.specs.Walks.{Makes, Resolves, NameBound, list_kind,
 ghost use Rattle.scope_names.specs.Kinds.{expr_kind, stmt_kind, declaration_kind, body_kind, key_kind, field_kind, variable_kind, start_kind, target_kind, case_kind, catch_kind};
 
 use crate::NoRoom;
+use crate::drops;
 use crate::hoist::frame_names;
 use crate::names::Names;
 use crate::walk::Walk;
@@ -305,8 +306,13 @@ impl<
         ensures { IfOk result (λ r. Resolves (case_kind self.now.left) walk given.now r.0 r.1) }
     {
         let (test, walk) = self.option(walk, &given.test)?;
-        let (statements, walk) = self.stmts(walk, given.statements.as_slice())?;
-        Ok((Case { test, statements }, walk))
+        match self.stmts(walk, given.statements.as_slice()) {
+            Ok((statements, walk)) => Ok((Case { test, statements }, walk)),
+            Err(stop) => {
+                drops::option(test);
+                Err(stop)
+            }
+        }
     }
 
     /// The clauses of a switch.

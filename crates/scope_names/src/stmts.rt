@@ -2,10 +2,11 @@
 ghost use Rattle.std.specs.Prelude.{◌≡◌, IfOk, suc};
 ghost use Rattle.js_tree.specs.declared.StmtNode.TheVariants as s;
 ghost use Rattle.js_tree.specs.Trees.{stmt_of};
-ghost use Rattle.scope_names.specs.Walks.{Makes, Resolves};
+ghost use Rattle.scope_names.specs.Walks.{Makes, Resolves, ResolvesTwo, ResolvesThree, option_kind};
 ghost use Rattle.scope_names.specs.Kinds.{expr_kind, stmt_kind, declaration_kind};
 
 use crate::NoRoom;
+use crate::drops;
 use crate::parts::Below;
 use crate::walk::Walk;
 use js_tree::{Case, Catch, Declaration, Expr, ForStart, ForTarget, Stmt, StmtNode, Variable};
@@ -93,14 +94,33 @@ impl<
         ensures { IfOk result (λ r. Resolves (stmt_kind (suc self.now.left)) walk (stmt_of (s.If test.now then.now otherwise.now)) r.0 r.1) }
     {
         let (test, walk) = self.expr(walk, test)?;
+        match self.branches(walk, then, otherwise) {
+            Ok((then, otherwise, walk)) => Ok((
+                Stmt {
+                    node: StmtNode::If(test, then, otherwise),
+                },
+                walk,
+            )),
+            Err(stop) => {
+                drops::expr(test);
+                Err(stop)
+            }
+        }
+    }
+
+    /// The two branches of an `if`.
+    fn branches(
+        &self,
+        walk: Walk,
+        then: &Stmt,
+        otherwise: &Option<Boxed<Stmt>>,
+    ) -> Result<(Boxed<Stmt>, Option<Boxed<Stmt>>, Walk), NoRoom>
+        requires stmts { Makes stmt_kind self.now.left (G.pre self.now.stmt) (G.post self.now.stmt) }
+        ensures { IfOk result (λ r. ResolvesTwo (stmt_kind self.now.left) (option_kind (stmt_kind self.now.left)) walk then.now otherwise.now r.0 r.1 r.2) }
+    {
         let (then, walk) = self.boxed_stmt(walk, then)?;
         let (otherwise, walk) = self.option_stmt(walk, otherwise)?;
-        Ok((
-            Stmt {
-                node: StmtNode::If(test, then, otherwise),
-            },
-            walk,
-        ))
+        Ok((then, otherwise, walk))
     }
 
     pub fn do_while(&self, walk: Walk, body: &Stmt, test: &Expr) -> Result<(Stmt, Walk), NoRoom>
@@ -124,13 +144,18 @@ impl<
         ensures { IfOk result (λ r. Resolves (stmt_kind (suc self.now.left)) walk (stmt_of (s.While test.now body.now)) r.0 r.1) }
     {
         let (test, walk) = self.expr(walk, test)?;
-        let (body, walk) = self.boxed_stmt(walk, body)?;
-        Ok((
-            Stmt {
-                node: StmtNode::While(test, body),
-            },
-            walk,
-        ))
+        match self.boxed_stmt(walk, body) {
+            Ok((body, walk)) => Ok((
+                Stmt {
+                    node: StmtNode::While(test, body),
+                },
+                walk,
+            )),
+            Err(stop) => {
+                drops::expr(test);
+                Err(stop)
+            }
+        }
     }
 
     pub fn for_loop(
@@ -146,15 +171,61 @@ impl<
         ensures { IfOk result (λ r. Resolves (stmt_kind (suc self.now.left)) walk (stmt_of (s.For start.now test.now step.now body.now)) r.0 r.1) }
     {
         let (start, walk) = self.start(walk, start)?;
+        match self.rest_of_for(walk, test, step, body) {
+            Ok((test, step, body, walk)) => Ok((
+                Stmt {
+                    node: StmtNode::For(start, test, step, body),
+                },
+                walk,
+            )),
+            Err(stop) => {
+                drops::start(start);
+                Err(stop)
+            }
+        }
+    }
+
+    /// What stands in a `for` after its first part.
+    fn rest_of_for(
+        &self,
+        walk: Walk,
+        test: &Option<Expr>,
+        step: &Option<Expr>,
+        body: &Stmt,
+    ) -> Result<(Option<Expr>, Option<Expr>, Boxed<Stmt>, Walk), NoRoom>
+        requires exprs { Makes expr_kind self.now.left (F.pre self.now.expr) (F.post self.now.expr) }
+        requires stmts { Makes stmt_kind self.now.left (G.pre self.now.stmt) (G.post self.now.stmt) }
+        ensures { IfOk result (λ r. ResolvesThree (option_kind (expr_kind self.now.left)) (option_kind (expr_kind self.now.left)) (stmt_kind self.now.left) walk test.now step.now body.now r.0 r.1 r.2 r.3) }
+    {
         let (test, walk) = self.option(walk, test)?;
+        match self.step_and_body(walk, step, body) {
+            Ok((step, body, walk)) => Ok((test, step, body, walk)),
+            Err(stop) => {
+                drops::option(test);
+                Err(stop)
+            }
+        }
+    }
+
+    /// The last part in the head of a `for`, and its body.
+    fn step_and_body(
+        &self,
+        walk: Walk,
+        step: &Option<Expr>,
+        body: &Stmt,
+    ) -> Result<(Option<Expr>, Boxed<Stmt>, Walk), NoRoom>
+        requires exprs { Makes expr_kind self.now.left (F.pre self.now.expr) (F.post self.now.expr) }
+        requires stmts { Makes stmt_kind self.now.left (G.pre self.now.stmt) (G.post self.now.stmt) }
+        ensures { IfOk result (λ r. ResolvesTwo (option_kind (expr_kind self.now.left)) (stmt_kind self.now.left) walk step.now body.now r.0 r.1 r.2) }
+    {
         let (step, walk) = self.option(walk, step)?;
-        let (body, walk) = self.boxed_stmt(walk, body)?;
-        Ok((
-            Stmt {
-                node: StmtNode::For(start, test, step, body),
-            },
-            walk,
-        ))
+        match self.boxed_stmt(walk, body) {
+            Ok((body, walk)) => Ok((step, body, walk)),
+            Err(stop) => {
+                drops::option(step);
+                Err(stop)
+            }
+        }
     }
 
     pub fn for_in(
@@ -169,14 +240,39 @@ impl<
         ensures { IfOk result (λ r. Resolves (stmt_kind (suc self.now.left)) walk (stmt_of (s.ForIn target.now object.now body.now)) r.0 r.1) }
     {
         let (target, walk) = self.target(walk, target)?;
+        match self.object_and_body(walk, object, body) {
+            Ok((object, body, walk)) => Ok((
+                Stmt {
+                    node: StmtNode::ForIn(target, object, body),
+                },
+                walk,
+            )),
+            Err(stop) => {
+                drops::target(target);
+                Err(stop)
+            }
+        }
+    }
+
+    /// The object that a `for` .. `in` goes over, and its body.
+    fn object_and_body(
+        &self,
+        walk: Walk,
+        object: &Expr,
+        body: &Stmt,
+    ) -> Result<(Expr, Boxed<Stmt>, Walk), NoRoom>
+        requires exprs { Makes expr_kind self.now.left (F.pre self.now.expr) (F.post self.now.expr) }
+        requires stmts { Makes stmt_kind self.now.left (G.pre self.now.stmt) (G.post self.now.stmt) }
+        ensures { IfOk result (λ r. ResolvesTwo (expr_kind self.now.left) (stmt_kind self.now.left) walk object.now body.now r.0 r.1 r.2) }
+    {
         let (object, walk) = self.expr(walk, object)?;
-        let (body, walk) = self.boxed_stmt(walk, body)?;
-        Ok((
-            Stmt {
-                node: StmtNode::ForIn(target, object, body),
-            },
-            walk,
-        ))
+        match self.boxed_stmt(walk, body) {
+            Ok((body, walk)) => Ok((object, body, walk)),
+            Err(stop) => {
+                drops::expr(object);
+                Err(stop)
+            }
+        }
     }
 
     pub fn switch(&self, walk: Walk, value: &Expr, cases: &[Case]) -> Result<(Stmt, Walk), NoRoom>
@@ -185,13 +281,18 @@ impl<
         ensures { IfOk result (λ r. Resolves (stmt_kind (suc self.now.left)) walk (stmt_of (s.Switch value.now cases.now)) r.0 r.1) }
     {
         let (value, walk) = self.expr(walk, value)?;
-        let (cases, walk) = self.cases(walk, cases)?;
-        Ok((
-            Stmt {
-                node: StmtNode::Switch(value, cases),
-            },
-            walk,
-        ))
+        match self.cases(walk, cases) {
+            Ok((cases, walk)) => Ok((
+                Stmt {
+                    node: StmtNode::Switch(value, cases),
+                },
+                walk,
+            )),
+            Err(stop) => {
+                drops::expr(value);
+                Err(stop)
+            }
+        }
     }
 
     pub fn try_statement(

@@ -4,5 +4,5 @@ use Rattle.js_tree.specs.Trees.{stmt_of}
 use Rattle.scope_names.proofs.StmtParts.{while_made}
 use Rattle.scope_names.proofs.parts.Below.while_loop.Goals as goal
 
-pub returns : goal.returns
-returns g c = while_made c.args.self.now.left (stmt_of (s.While c.args.test.now c.args.body.now)) refl c.in_ok-test.ensures c.in_ok-body.ensures
+pub returns-in-Ok : goal.returns-in-Ok
+returns-in-Ok g c = while_made c.args.self.now.left (stmt_of (s.While c.args.test.now c.args.body.now)) refl c.in_ok-test.ensures c.in-Ok.ensures
