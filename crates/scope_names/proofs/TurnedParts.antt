@@ -25,18 +25,18 @@ some_turned kind {w} {w'} {o} {x} {y} e r = subst (λ a. Resolves (option_kind k
 pub none_turned : {A : Type 0} (kind : Kind A) (w : Walk) {o : Option A} → o ≡ None → Resolves (option_kind kind) w o None w
 none_turned kind w e = subst (λ a. Resolves (option_kind kind) w a None w) (sym e) (option_none kind w)
 
-pub expr_turned : {m : ℕ} {w : Walk} (o : Result (Expr × Walk) NoRoom) {x y : Expr} → x ≡ y → IfOk o (λ r. Resolves (expr_kind m) w x r.0 r.1) → IfOk o (λ r. Resolves (expr_kind m) w y r.0 r.1)
-expr_turned {m} {w} o e h = subst (λ a. IfOk o (λ r. Resolves (expr_kind m) w a r.0 r.1)) e h
+pub expr_turned : (m : ℕ) (w : Walk) (o : Result (Expr × Walk) NoRoom) {x y : Expr} → x ≡ y → IfOk o (λ r. Resolves (expr_kind m) w x r.0 r.1) → IfOk o (λ r. Resolves (expr_kind m) w y r.0 r.1)
+expr_turned m w o e h = subst (λ a. IfOk o (λ r. Resolves (expr_kind m) w a r.0 r.1)) e h
 
-pub stmt_turned : {m : ℕ} {w : Walk} (o : Result (Stmt × Walk) NoRoom) {x y : Stmt} → x ≡ y → IfOk o (λ r. Resolves (stmt_kind m) w x r.0 r.1) → IfOk o (λ r. Resolves (stmt_kind m) w y r.0 r.1)
-stmt_turned {m} {w} o e h = subst (λ a. IfOk o (λ r. Resolves (stmt_kind m) w a r.0 r.1)) e h
+pub stmt_turned : (m : ℕ) (w : Walk) (o : Result (Stmt × Walk) NoRoom) {x y : Stmt} → x ≡ y → IfOk o (λ r. Resolves (stmt_kind m) w x r.0 r.1) → IfOk o (λ r. Resolves (stmt_kind m) w y r.0 r.1)
+stmt_turned m w o e h = subst (λ a. IfOk o (λ r. Resolves (stmt_kind m) w a r.0 r.1)) e h
 
 -- a frame with one name, said of a copy of it
 pub entered : {w w' : Walk} {name copy : Units} {own : Bool} → copy ≡ name → Enters w (record { names = name ∷ []; own = own }) w' → Enters w (record { names = copy ∷ []; own = own }) w'
 entered {w} {w'} {name} {copy} {own} e h = subst (λ n. Enters w (record { names = n ∷ []; own = own }) w') (sym e) h
 
-pub frame_same : {ps : List Units} {b : Script} {names : List Units} {own : Bool} → names ≡ gathered [] (frame_of ps b).names → own ≡ (frame_of ps b).own → record { names = names; own = own } ≡ collected (frame_of ps b)
-frame_same e f = λ i. record { names = e i; own = f i }
+pub frame_same : (ps : List Units) (b : Script) {names : List Units} {own : Bool} → names ≡ gathered [] (frame_of ps b).names → own ≡ (frame_of ps b).own → record { names = names; own = own } ≡ collected (frame_of ps b)
+frame_same ps b e f = λ i. record { names = e i; own = f i }
 
 pub body_turned : (m : ℕ) {w w' : Walk} {ps qs : List Units} {x y z : Script} → ps ≡ qs → x ≡ y → Resolves (body_kind m ps) w x z w' → Resolves (body_kind m qs) w y z w'
 body_turned m {w} {w'} {ps} {qs} {x} {y} {z} e f r = subst (λ a. Resolves (body_kind m qs) w a z w') f (subst (λ a. Resolves (body_kind m a) w x z w') e r)

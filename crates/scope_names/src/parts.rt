@@ -6,7 +6,6 @@ ghost use Rattle.scope_names.specs.Kinds.{expr_kind, stmt_kind, declaration_kind
 use crate::NoRoom;
 use crate::drops;
 use crate::hoist::frame_names;
-use crate::names::Names;
 use crate::walk::Walk;
 use js_tree::{
     Case, Catch, Declaration, Expr, Field, ForStart, ForTarget, Key, Named, Script, Stmt, Variable,

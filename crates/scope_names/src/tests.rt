@@ -24,10 +24,10 @@ fn var_of(alloc: Global, text: &[u8]) -> Result<Stmt, Fail> {
     Ok(Stmt::make(StmtNode::Var(list)))
 }
 
-fn list(alloc: Global, first: Stmt, second: Stmt) -> Result<Items<Stmt>, Fail> {
-    let mut stmts = Items::new(alloc);
-    stmts.push(first)?;
-    stmts.push(second)?;
+/// The statements with one more at their end.
+fn with(stmts: Items<Stmt>, stmt: Stmt) -> Result<Items<Stmt>, Fail> {
+    let mut stmts = stmts;
+    stmts.push(stmt)?;
     Ok(stmts)
 }
 
@@ -75,10 +75,13 @@ fn with_function(
 ) -> Result<Script, Fail> {
     let mut parameters = Items::new(alloc);
     parameters.push(units(alloc, parameter)?)?;
-    let body = Script::make(Items::new(alloc), list(alloc, var_of(alloc, declared)?, use_of(alloc, used)?)?);
+    let stmts = with(Items::new(alloc), var_of(alloc, declared)?)?;
+    let stmts = with(stmts, use_of(alloc, used)?)?;
+    let body = Script::make(Items::new(alloc), stmts);
     let function = Expr::make(ExprNode::Function(own, parameters, body));
-    let first = Stmt::make(StmtNode::Expression(function));
-    Ok(Script::make(Items::new(alloc), list(alloc, first, use_of(alloc, after)?)?))
+    let stmts = with(Items::new(alloc), Stmt::make(StmtNode::Expression(function)))?;
+    let stmts = with(stmts, use_of(alloc, after)?)?;
+    Ok(Script::make(Items::new(alloc), stmts))
 }
 
 #[test]
@@ -107,14 +110,16 @@ fn names_in_functions(rt: HostRuntime) -> Result<(), Fail> {
 #[test]
 fn names_in_catches(rt: HostRuntime) -> Result<(), Fail> {
     let alloc = rt.alloc();
-    let inner = list(alloc, var_of(alloc, b"e")?, use_of(alloc, b"e")?)?;
+    let inner = with(Items::new(alloc), var_of(alloc, b"e")?)?;
+    let inner = with(inner, use_of(alloc, b"e")?)?;
     let caught = Catch {
         name: units(alloc, b"e")?,
         body: Boxed::new(alloc, Stmt::make(StmtNode::Block(inner)))?,
     };
     let body = Boxed::new(alloc, Stmt::make(StmtNode::Block(Items::new(alloc))))?;
-    let tried = Stmt::make(StmtNode::Try(body, Some(caught), None));
-    let script = Script::make(Items::new(alloc), list(alloc, tried, use_of(alloc, b"e")?)?);
+    let stmts = with(Items::new(alloc), Stmt::make(StmtNode::Try(body, Some(caught), None)))?;
+    let stmts = with(stmts, use_of(alloc, b"e")?)?;
+    let script = Script::make(Items::new(alloc), stmts);
     let (bound, names) = bind_script(alloc, &script).ok().ok_or("no room")?;
     assert_eq!(rt; caught_name(bound.statements()), Some((Binding::Out(0), false)));
     assert_eq!(rt; last_name(bound.statements()), Some((Binding::Out(0), false)));
