@@ -1,4 +1,4 @@
-use Rattle.std.proofs.Common.{◌∙◌, ap, sym}
+use Rattle.std.proofs.Common.{suc, ◌∙◌, ap, sym}
 use Rattle.js_tree.specs.declared.ExprNode.TheVariants as v
 use Rattle.js_tree.specs.Trees.{expr_of}
 use Rattle.scope_names.proofs.ExprParts.{this_made, join_made, crash_made}

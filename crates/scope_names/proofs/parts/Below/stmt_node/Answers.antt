@@ -1,4 +1,4 @@
-use Rattle.std.proofs.Common.{◌∙◌, ap, sym}
+use Rattle.std.proofs.Common.{suc, ◌∙◌, ap, sym}
 use Rattle.js_tree.specs.declared.StmtNode.TheVariants as v
 use Rattle.js_tree.specs.Trees.{stmt_of}
 use Rattle.scope_names.proofs.StmtParts.{empty_made, continue_made, break_made}
