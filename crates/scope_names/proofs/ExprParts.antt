@@ -201,5 +201,5 @@ delete_made m {w} {v} {w'} x {a} {b} {k} {l} at r0 r1 =
 pub literal_made : (m : ℕ) {w : Walk} (x : Expr) {l k : Literal} → x.node ≡ e.Literal l → k ≡ l → Resolves (expr_kind (suc m)) w x (expr_of (e.Literal k)) w
 literal_made m {w} x {l} {k} at same =
     subst (λ z. Resolves (expr_kind (suc m)) w x (expr_of (e.Literal z)) w) (sym same)
-      (expr_at m x (expr_of (e.Literal l)) (ExprNode-F.Literal l) (ExprNode-F.Literal l) (ap out-ExprNode (at ∙ sym (e.rolls-Literal l)) ∙ out-roll-ExprNode (ExprNode-F.Literal l)) (ap out-ExprNode (sym (e.rolls-Literal l)) ∙ out-roll-ExprNode (ExprNode-F.Literal l)) (below m)
-        refl (λ d. refl) (λ table frames h. h) refl (λ h. h) (none w (m + m)))
+    (expr_at m x (expr_of (e.Literal l)) (ExprNode-F.Literal l) (ExprNode-F.Literal l) (ap out-ExprNode (at ∙ sym (e.rolls-Literal l)) ∙ out-roll-ExprNode (ExprNode-F.Literal l)) (ap out-ExprNode (sym (e.rolls-Literal l)) ∙ out-roll-ExprNode (ExprNode-F.Literal l)) (below m)
+    refl (λ d. refl) (λ table frames h. h) refl (λ h. h) (none w (m + m)))

@@ -43,12 +43,12 @@ script_made {w} {v} {t} {z} given {frame} {fs} {ss} outside first none enter sam
     record {
       bound = record {
         names = subst (λ g. Each (DeclarationBound (table_of made) 200 (g ∷ [])) (functions_of made) × Each (StmtBound (table_of made) 200 (g ∷ [])) (statements_of made)) (sym frames_same)
-          (subst (λ y. Each (DeclarationBound (table_of made) 200 (frame_of [] given ∷ [])) y.functions × Each (StmtBound (table_of made) 200 (frame_of [] given ∷ [])) y.statements) (sym opened) got);
+            (subst (λ y. Each (DeclarationBound (table_of made) 200 (frame_of [] given ∷ [])) y.functions × Each (StmtBound (table_of made) 200 (frame_of [] given ∷ [])) y.statements) (sym opened) got);
         numbers = λ k code at. (let here : v.next + k ≡ k = omega arith in p.moves.numbered k code (sym (ap (λ c. slice_get c k) table_is) ∙ at) ∙ here);
         top = ap (λ y. y.number) opened;
       };
       same = ap (λ y. script_of (map (declaration_bare 200) y.functions) (map (stmt_bare 200) y.statements)) opened ∙ (λ i. script_of (r.same i) (q.same i));
       lawful = λ h. subst (λ y. Each (DeclarationWithin 200) y.functions × Each (StmtWithin 200 around_script) y.statements) (sym opened) (r.lawful around_script h.0, q.lawful around_script h.1);
       counted = counted_all w.names v.names z.names (length frame.names) (distinct (frame_of [] given).names) (sum_by (declaration_count 200) (functions_of given) + sum_by (stmt_count 200) (statements_of given)) none
-        (ap (λ g. length g.names) same ∙ length-gathered (frame_of [] given).names) enter.counted p.moves.counted;
+          (ap (λ g. length g.names) same ∙ length-gathered (frame_of [] given).names) enter.counted p.moves.counted;
     }

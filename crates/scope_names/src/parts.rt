@@ -3,10 +3,9 @@ ghost use Rattle.std.specs.Prelude.{◌≡◌, IfOk, suc};
 ghost use Rattle.scope_names.specs.Walks.{Makes, Resolves, NameBound, list_kind, option_kind};
 ghost use Rattle.scope_names.specs.Kinds.{expr_kind, stmt_kind, declaration_kind, body_kind, key_kind, field_kind, variable_kind, start_kind, target_kind, case_kind, catch_kind};
 
-use crate::NoRoom;
-use crate::drops;
 use crate::hoist::frame_names;
 use crate::walk::Walk;
+use crate::{NoRoom, drops};
 use js_tree::{
     Case, Catch, Declaration, Expr, Field, ForStart, ForTarget, Key, Named, Script, Stmt, Variable,
 };

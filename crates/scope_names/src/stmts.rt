@@ -5,10 +5,9 @@ ghost use Rattle.js_tree.specs.Trees.{stmt_of};
 ghost use Rattle.scope_names.specs.Walks.{Makes, Resolves, ResolvesTwo, ResolvesThree, option_kind};
 ghost use Rattle.scope_names.specs.Kinds.{expr_kind, stmt_kind, declaration_kind};
 
-use crate::NoRoom;
-use crate::drops;
 use crate::parts::Below;
 use crate::walk::Walk;
+use crate::{NoRoom, drops};
 use js_tree::{Case, Catch, Declaration, Expr, ForStart, ForTarget, Stmt, StmtNode, Variable};
 use sqlite_items::Boxed;
 

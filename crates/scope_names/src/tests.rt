@@ -79,7 +79,10 @@ fn with_function(
     let stmts = with(stmts, use_of(alloc, used)?)?;
     let body = Script::make(Items::new(alloc), stmts);
     let function = Expr::make(ExprNode::Function(own, parameters, body));
-    let stmts = with(Items::new(alloc), Stmt::make(StmtNode::Expression(function)))?;
+    let stmts = with(
+        Items::new(alloc),
+        Stmt::make(StmtNode::Expression(function)),
+    )?;
     let stmts = with(stmts, use_of(alloc, after)?)?;
     Ok(Script::make(Items::new(alloc), stmts))
 }
@@ -88,16 +91,86 @@ fn with_function(
 fn names_in_functions(rt: HostRuntime) -> Result<(), Fail> {
     let alloc = rt.alloc();
     // own name, parameter, variable, the name used within, the name used after; what these are bound to, and how many names there are
-    let rows: [(&[u8], &[u8], &[u8], &[u8], &[u8], (Binding, bool), (Binding, bool), u32); 6] = [
-        (b"g", b"a", b"b", b"b", b"b", (Binding::Out(0), false), (Binding::Nothing, false), 3),
-        (b"g", b"a", b"a", b"a", b"a", (Binding::Out(0), false), (Binding::Nothing, false), 2),
-        (b"g", b"a", b"b", b"g", b"g", (Binding::Out(1), true), (Binding::Nothing, false), 3),
-        (b"g", b"g", b"b", b"g", b"Error", (Binding::Out(0), false), (Binding::BuiltIn, false), 3),
-        (b"g", b"a", b"String", b"String", b"String", (Binding::Out(0), false), (Binding::BuiltIn, false), 3),
-        (b"g", b"a", b"b", b"c", b"undefined", (Binding::Nothing, false), (Binding::BuiltIn, false), 3),
+    let rows: [(
+        &[u8],
+        &[u8],
+        &[u8],
+        &[u8],
+        &[u8],
+        (Binding, bool),
+        (Binding, bool),
+        u32,
+    ); 6] = [
+        (
+            b"g",
+            b"a",
+            b"b",
+            b"b",
+            b"b",
+            (Binding::Out(0), false),
+            (Binding::Nothing, false),
+            3,
+        ),
+        (
+            b"g",
+            b"a",
+            b"a",
+            b"a",
+            b"a",
+            (Binding::Out(0), false),
+            (Binding::Nothing, false),
+            2,
+        ),
+        (
+            b"g",
+            b"a",
+            b"b",
+            b"g",
+            b"g",
+            (Binding::Out(1), true),
+            (Binding::Nothing, false),
+            3,
+        ),
+        (
+            b"g",
+            b"g",
+            b"b",
+            b"g",
+            b"Error",
+            (Binding::Out(0), false),
+            (Binding::BuiltIn, false),
+            3,
+        ),
+        (
+            b"g",
+            b"a",
+            b"String",
+            b"String",
+            b"String",
+            (Binding::Out(0), false),
+            (Binding::BuiltIn, false),
+            3,
+        ),
+        (
+            b"g",
+            b"a",
+            b"b",
+            b"c",
+            b"undefined",
+            (Binding::Nothing, false),
+            (Binding::BuiltIn, false),
+            3,
+        ),
     ];
     for (own, parameter, declared, used, after, inside, outside, count) in rows {
-        let script = with_function(alloc, Some(units(alloc, own)?), parameter, declared, used, after)?;
+        let script = with_function(
+            alloc,
+            Some(units(alloc, own)?),
+            parameter,
+            declared,
+            used,
+            after,
+        )?;
         let (bound, names) = bind_script(alloc, &script).ok().ok_or("no room")?;
         assert_eq!(rt; inner_name(bound.statements()), Some(inside));
         assert_eq!(rt; last_name(bound.statements()), Some(outside));
@@ -117,12 +190,21 @@ fn names_in_catches(rt: HostRuntime) -> Result<(), Fail> {
         body: Boxed::new(alloc, Stmt::make(StmtNode::Block(inner)))?,
     };
     let body = Boxed::new(alloc, Stmt::make(StmtNode::Block(Items::new(alloc))))?;
-    let stmts = with(Items::new(alloc), Stmt::make(StmtNode::Try(body, Some(caught), None)))?;
+    let stmts = with(
+        Items::new(alloc),
+        Stmt::make(StmtNode::Try(body, Some(caught), None)),
+    )?;
     let stmts = with(stmts, use_of(alloc, b"e")?)?;
     let script = Script::make(Items::new(alloc), stmts);
     let (bound, names) = bind_script(alloc, &script).ok().ok_or("no room")?;
-    assert_eq!(rt; caught_name(bound.statements()), Some((Binding::Out(0), false)));
-    assert_eq!(rt; last_name(bound.statements()), Some((Binding::Out(0), false)));
+    assert_eq!(rt;
+        caught_name(bound.statements()),
+        Some((Binding::Out(0), false))
+    );
+    assert_eq!(rt;
+        last_name(bound.statements()),
+        Some((Binding::Out(0), false))
+    );
     assert_eq!(rt; names, 2);
     Ok(())
 }

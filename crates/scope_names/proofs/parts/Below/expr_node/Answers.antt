@@ -91,4 +91,3 @@ returns-in-Delete g c = expr_turned (suc c.args.self.now.left) c.args.walk c.del
 
 pub returns-in-Function : goal.returns-in-Function
 returns-in-Function g c = expr_turned (suc c.args.self.now.left) c.args.walk c.function.result ((λ i. expr_of (v.Function c.in-Function.own (c.as_slice-in-Function.ensures i) c.in-Function.body)) ∙ ap expr_of (sym c.in-Function.is ∙ c.node.ensures)) c.function.ensures
-

@@ -49,4 +49,3 @@ returns-in-Switch g c = stmt_turned (suc c.args.self.now.left) c.args.walk c.swi
 
 pub returns-in-Try : goal.returns-in-Try
 returns-in-Try g c = stmt_turned (suc c.args.self.now.left) c.args.walk c.try_statement.result ((λ i. stmt_of (v.Try (c.get-in-Try.ensures i) c.in-Try.caught c.in-Try.last)) ∙ ap stmt_of (sym c.in-Try.is ∙ c.node.ensures)) c.try_statement.ensures
-
