@@ -240,3 +240,28 @@ fn empty(rt: HostRuntime) -> Result<(), Fail> {
     assert_eq!(rt; resolved.script().functions().len(), 0);
     Ok(())
 }
+
+/// `(function () { .. });` round the statements of a script.
+fn within(alloc: Global, body: Script) -> Result<Script, Fail> {
+    let function = Expr::make(ExprNode::Function(None, Items::new(alloc), body));
+    let stmts = with(
+        Items::new(alloc),
+        Stmt::make(StmtNode::Expression(function)),
+    )?;
+    Ok(Script::make(Items::new(alloc), stmts))
+}
+
+/// 99 functions, each within the last, with a name in the innermost: its node stands 200 deep, and no script may be deeper.
+#[test]
+fn deepest(rt: HostRuntime) -> Result<(), Fail> {
+    let alloc = rt.alloc();
+    let stmts = with(Items::new(alloc), use_of(alloc, b"x")?)?;
+    let mut script = Script::make(Items::new(alloc), stmts);
+    for _ in 0..99 {
+        script = within(alloc, script)?;
+    }
+    assert!(rt; bind_script(alloc, &script).is_ok());
+    script = within(alloc, script)?;
+    assert!(rt; bind_script(alloc, &script).is_err());
+    Ok(())
+}
