@@ -30,6 +30,7 @@ pub fn leaf<'a>(base: u32, made: Operand, rest: &'a [Token]) -> Read<'a, Operand
     ensures small { IfOk result (λ r. base + r.1 ≤ 200) }
 {
     if base == LIMIT {
+        drops::expr(made.expr);
         return Err(Stop::Nesting);
     }
     Ok((made, 1, rest))
