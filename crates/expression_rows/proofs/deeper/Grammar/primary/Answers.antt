@@ -60,13 +60,13 @@ returns-in-Neither-clause-meets g c _ = let q : head.Neither ≡ head_of c.in_ok
     row (peeks c.in_ok-token.ensures (by primary_by q (refuses c.in_ok-token.ensures c.refused-in-Neither.ensures)))
 
 pub returns-in-Identifier-Named-clause-meets : goal.returns-in-Identifier-Named-clause-meets
-returns-in-Identifier-Named-clause-meets g c = let q = sym c.in-Identifier-Named.is ∙ c.in_ok-head_of.ensures in
+returns-in-Identifier-Named-clause-meets g c = let q = ap head.Identifier (sym c.in-Identifier-Named.field-0-is) ∙ sym c.in-Identifier-Named.is ∙ c.in_ok-head_of.ensures in
     onward c.leaf-in-Identifier-Named.result (λ o w. peeks c.in_ok-token.ensures (by primary_by q (at c.in_ok-token.ensures (by Leaf c.named.ensures w)))) (c.leaf-in-Identifier-Named.ensures.leaf c.in_ok-token.token.now (live_head _ _ (sym q) (λ z. cc)))
 
 pub returns-in-Identifier-Out-clause-meets : goal.returns-in-Identifier-Out-clause-meets
-returns-in-Identifier-Out-clause-meets g c _ = let q = sym c.in-Identifier-Out.is ∙ c.in_ok-head_of.ensures in
+returns-in-Identifier-Out-clause-meets g c _ = let q = ap head.Identifier (sym c.in-Identifier-Out.field-0-is) ∙ sym c.in-Identifier-Out.is ∙ c.in_ok-head_of.ensures in
     row (peeks c.in_ok-token.ensures (by primary_by q (refuses c.in_ok-token.ensures c.refused.ensures)))
 
 pub returns-in-Identifier-Other-clause-meets : goal.returns-in-Identifier-Other-clause-meets
-returns-in-Identifier-Other-clause-meets g c _ = let q = sym c.in-Identifier-Other.is ∙ c.in_ok-head_of.ensures in
+returns-in-Identifier-Other-clause-meets g c _ = let q = ap head.Identifier (sym c.in-Identifier-Other.field-0-is) ∙ sym c.in-Identifier-Other.is ∙ c.in_ok-head_of.ensures in
     row (peeks c.in_ok-token.ensures (by primary_by q (refuses c.in_ok-token.ensures c.refused-in-Identifier-Other.ensures)))

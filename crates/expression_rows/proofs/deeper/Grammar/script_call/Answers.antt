@@ -21,7 +21,7 @@ pub returns-in_err-argument-clause-after : goal.returns-in_err-argument-clause-a
 returns-in_err-argument-clause-after g c t live = handed Primary c.args.base (primary_by (head.One c.args.word)) (t ∷ c.args.rest.now) c.from_residual-in_err-argument.result c.from_residual-in_err-argument.ensures.1 (λ not. rises live refl (omega arith) (expects c.in_ok-rest.ensures (fails (c.in_err-argument.ensures.meets not))))
 
 pub returns-in_ok-called-in-Ok-clause-after : goal.returns-in_ok-called-in-Ok-clause-after
-returns-in_ok-called-in-Ok-clause-after g c t live = row (rises live refl (omega arith) (expects c.in_ok-rest.ensures (passes c.in_ok-argument.ensures.meets (expects c.in-Ok.ensures (gives (c.plain.ensures ∙ ap plain c.in_ok-called-in-Ok.ensures) (omega arith))))))
+returns-in_ok-called-in-Ok-clause-after g c t live = row (rises live refl (omega arith) (expects c.in_ok-rest.ensures (passes c.in_ok-argument.ensures.meets (expects c.in-Ok.ensures (gives (c.plain-made.ensures ∙ ap plain c.in_ok-called-in-Ok.ensures) (omega arith))))))
 
 pub returns-in-Err-clause-after : goal.returns-in-Err-clause-after
 returns-in-Err-clause-after g c t live _ = row (rises live refl (omega arith) (expects c.in_ok-rest.ensures (passes c.in_ok-argument.ensures.meets (misses _ _ c.in-Err.ensures))))
