@@ -1,4 +1,4 @@
-use Rattle.std.proofs.Common.{arith, rules}
+use Rattle.std.proofs.Common.{rules}
 use Rattle.script_grammar.proofs.Along.{row}
 use Rattle.script_grammar.proofs.Repeated.{again_arguments, last_arguments}
 use Rattle.expression_rows.proofs.deeper.Grammar.arguments.Goals as goal

@@ -1,4 +1,4 @@
-use Rattle.std.proofs.Common.{◌≢◌, refl, arith}
+use Rattle.std.proofs.Common.{refl, arith}
 use Rattle.script_grammar.specs.Grammar.{grammar}
 use Rattle.script_grammar.specs.Rules.Symbol.{Expr}
 use Rattle.script_grammar.proofs.Along.{row, gives, passes_level, fails_level, handed}

@@ -38,8 +38,10 @@ returns-else-is-clause-item g c = let q = sym c.in-Some.is ∙ c.in_ok-key.ensur
 }
 
 pub returns-in-Err-clause-item : goal.returns-in-Err-clause-item
-returns-in-Err-clause-item g c = let q = sym c.in-Some.is ∙ c.in_ok-key.ensures in λ _. record { row = λ so_far h. peeks c.in_ok-token.ensures (by (field_by {so_far = so_far}) q (eats (live_literal_key _ _ (sym q)) c.in_ok-token.ensures (expects c.in_ok-rest-in-Some.ensures (passes_level c.in_ok-one-in-Some.ensures.meets
-    (peeks_end c.in-Err.ensures.0 c.in-Err.ensures.1))))) }
+returns-in-Err-clause-item g c = let q = sym c.in-Some.is ∙ c.in_ok-key.ensures in λ _. record {
+  row = λ so_far h. peeks c.in_ok-token.ensures (by (field_by {so_far = so_far}) q (eats (live_literal_key _ _ (sym q)) c.in_ok-token.ensures (expects c.in_ok-rest-in-Some.ensures (passes_level c.in_ok-one-in-Some.ensures.meets
+      (peeks_end c.in-Err.ensures.0 c.in-Err.ensures.1)))));
+}
 
 pub returns-in-None-clause-item : goal.returns-in-None-clause-item
 returns-in-None-clause-item g c _ = record { row = λ so_far h. peeks c.in_ok-token.ensures (by (field_by {so_far = so_far}) (sym c.in-None.is ∙ c.in_ok-key.ensures) (refuses c.in_ok-token.ensures c.refused.ensures)) }

@@ -29,9 +29,13 @@ returns-in_err-body-clause-row g c = handed_on (λ r. TookFunction c.args.base c
     (λ not. record { row = λ n h rule. c.in_ok-names.ensures.row n c.args.base h (with_body rule) _ (expects c.in_ok-rest.ensures (fails (c.in_err-body.ensures.meets not))) })
 
 pub returns-in-Ok-clause-row : goal.returns-in-Ok-clause-row
-returns-in-Ok-clause-row g c = record { row = λ n h rule o w. c.in_ok-names.ensures.row n c.args.base h (with_body rule) _
-    (expects c.in_ok-rest.ensures (passes c.in_ok-body.ensures.meets (expects c.in-Ok.ensures (as_high (omega arith) w)))) }
+returns-in-Ok-clause-row g c = record {
+  row = λ n h rule o w. c.in_ok-names.ensures.row n c.args.base h (with_body rule) _
+      (expects c.in_ok-rest.ensures (passes c.in_ok-body.ensures.meets (expects c.in-Ok.ensures (as_high (omega arith) w))));
+}
 
 pub returns-in-Err-clause-row : goal.returns-in-Err-clause-row
-returns-in-Err-clause-row g c _ = record { row = λ n h rule. c.in_ok-names.ensures.row n c.args.base h (with_body rule) _
-    (expects c.in_ok-rest.ensures (passes c.in_ok-body.ensures.meets (misses _ _ c.in-Err.ensures))) }
+returns-in-Err-clause-row g c _ = record {
+  row = λ n h rule. c.in_ok-names.ensures.row n c.args.base h (with_body rule) _
+      (expects c.in_ok-rest.ensures (passes c.in_ok-body.ensures.meets (misses _ _ c.in-Err.ensures)));
+}
