@@ -1,7 +1,8 @@
 //! An operand with what stands after it: members, calls and `new`.
 
-ghost use Rattle.std.specs.Prelude.{◌≤◌, ◌<◌, ◌+◌, ◌≢◌, false, true, [], IfOk, MatchResult};
-ghost use Rattle.script_grammar.specs.Meets.{Assigns, Bodies, Meets, Part, TookKey, MissesKey, TookOperand, MissesOperand, computed_part, fixed_part, call_part};
+ghost use Rattle.std.specs.Prelude.{◌≤◌, ◌<◌, ◌+◌, ◌-◌, ◌≢◌, IfOk, MatchResult};
+ghost use Rattle.script_grammar.specs.Meets.{Assigns, Bodies, Meets};
+ghost use Rattle.expression_rows.specs.Parts.{Part, TookKey, MissesKey, TookOperand, MissesOperand, computed_part, fixed_part, call_part};
 ghost use Rattle.script_grammar.specs.Rules.Symbol.{Left, New, Suffixes};
 ghost use Rattle.script_grammar.specs.declared.stop.Stop.TheVariants.{Memory};
 
@@ -92,7 +93,8 @@ impl<
         requires base { base + height ≤ 200 }
         requires levels { 1 ≤ levels }
         requires few { levels ≤ 2 }
-        ensures part { Part base (call_part levels left height) levels after.now result }
+        ensures part { Part base (call_part levels left height) (levels - 1) after.now result }
+        ensures grown { IfOk result (λ r. height < r.1) }
         ensures small { IfOk result (λ r. base + r.1 + levels ≤ 201) }
     {
         if base + height + levels > LIMIT {

@@ -5,8 +5,10 @@
 #![tactic(auto)]
 
 ghost use Rattle.std.specs.Prelude.{◌≡◌, [], ◌∷◌, ◌++◌, IfOk};
+ghost use Rattle.js_tree.specs.Trees.{expr_level};
+ghost use Rattle.tree_drops.specs.Deletes.{delete_of};
 
-use js_tree::{Expr, Field, Script};
+use js_tree::{Expr, ExprNode, Field, Script};
 use sqlite_items::Items;
 use turk_base::NoMemory;
 
@@ -41,5 +43,17 @@ pub fn fields_with(all: Items<Field>, one: Field) -> Result<Items<Field>, NoMemo
     match all.push(one) {
         Ok(()) => Ok(all),
         Err(_) => Err(NoMemory),
+    }
+}
+
+/// The `delete` of a member, or nothing where the expression is no member; it is let go then.
+pub fn deleted(it: Expr) -> Option<Expr>
+    ensures { result ≡ delete_of (expr_level it) }
+{
+    match it.node {
+        ExprNode::Member(base, key) => Some(Expr {
+            node: ExprNode::Delete(base, key),
+        }),
+        _ => None,
     }
 }
