@@ -11,8 +11,8 @@ use Rattle.script_grammar.specs.Meets.{Meets}
 use Rattle.script_grammar.proofs.Along.{row, gives, passes_level, fails_level}
 
 -- the tightest level is that of the operands
-pub as_unary : {no_in : Bool} (level b : ℕ) (ts : List Token) (r : Result (Operand × ℕ × Bor (List Token)) Stop) → level ≡ 0 → Meets Unary b ts r → Meets (Binary no_in level) b ts r
-as_unary {no_in} level b ts r e g = subst (λ x. Meets (Binary no_in x) b ts r) (sym e) (at_zero r g)
+pub as_unary : (no_in : Bool) (level b : ℕ) (ts : List Token) (r : Result (Operand × ℕ × Bor (List Token)) Stop) → level ≡ 0 → Meets Unary b ts r → Meets (Binary no_in level) b ts r
+as_unary no_in level b ts r e g = subst (λ x. Meets (Binary no_in x) b ts r) (sym e) (at_zero r g)
   where
     at_zero : (r : Result (Operand × ℕ × Bor (List Token)) Stop) → Meets Unary b ts r → Meets (Binary no_in zero) b ts r
     at_zero (Ok x) g = row (passes_level g (gives refl (omega arith)))
@@ -50,11 +50,13 @@ pub tighter_fails : {no_in : Bool} {b : ℕ} {ts : List Token} (level : ℕ) {st
 tighter_fails {no_in} {b} {ts} level {stop} p g = subst (λ x. Goes 200 (Binary no_in x) b (grammar (Binary no_in x)) ts (Err stop)) (below level p) g
 
 -- what is read after one left operand is read after an equal one
-module _ {no_in : Bool} {level b tall : ℕ} {made v : Operand} {ts : List Token} (e : made ≡ v) where
+module _ {no_in : Bool} {level b tall high : ℕ} {made v : Operand} {ts : List Token} (e : made ≡ v) (q : tall ≡ high) where
   pub more_reads : {w : Operand} {h : ℕ} {rest : List Token} → Goes 200 (More no_in level made tall) b (grammar (More no_in level made tall)) ts (Ok record { value = w; height = h; rest = rest })
-      → Goes 200 (More no_in level v tall) b (grammar (More no_in level v tall)) ts (Ok record { value = w; height = h; rest = rest })
-  more_reads {w} {h} {rest} g = subst (λ x. Goes 200 (More no_in level x tall) b (grammar (More no_in level x tall)) ts (Ok record { value = w; height = h; rest = rest })) e g
+      → Goes 200 (More no_in level v high) b (grammar (More no_in level v high)) ts (Ok record { value = w; height = h; rest = rest })
+  more_reads {w} {h} {rest} g = subst (λ y. Goes 200 (More no_in level v y) b (grammar (More no_in level v y)) ts (Ok record { value = w; height = h; rest = rest })) q
+      (subst (λ x. Goes 200 (More no_in level x tall) b (grammar (More no_in level x tall)) ts (Ok record { value = w; height = h; rest = rest })) e g)
 
   pub more_stops : {stop : Stop} → Goes 200 (More no_in level made tall) b (grammar (More no_in level made tall)) ts (Err stop)
-      → Goes 200 (More no_in level v tall) b (grammar (More no_in level v tall)) ts (Err stop)
-  more_stops {stop} g = subst (λ x. Goes 200 (More no_in level x tall) b (grammar (More no_in level x tall)) ts (Err stop)) e g
+      → Goes 200 (More no_in level v high) b (grammar (More no_in level v high)) ts (Err stop)
+  more_stops {stop} g = subst (λ y. Goes 200 (More no_in level v y) b (grammar (More no_in level v y)) ts (Err stop)) q
+      (subst (λ x. Goes 200 (More no_in level x tall) b (grammar (More no_in level x tall)) ts (Err stop)) e g)

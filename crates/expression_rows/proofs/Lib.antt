@@ -1,3 +1,3 @@
 pub mod Levels
 pub mod Unaries
-pub mod Operands
+pub mod Members

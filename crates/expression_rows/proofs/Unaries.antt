@@ -30,15 +30,15 @@ pub refuses_end : {n : Symbol} {b : ℕ} (form : Option Form) {ts : List Token} 
 refuses_end {n} {b} form {ts} {h} {e} q w = subst (λ x. Has n b (refuse form) x h (Err e)) (sym q) (subst (λ y. Has n b (refuse form) [] h (Err y)) (sym w) (has ends_refuse refl))
 
 -- an expression with no operator before it
-pub as_postfix : {b : ℕ} {ts rest : List Token} {t : Token} (r : Result (Operand × ℕ × Bor (List Token)) Stop) → ts ≡ t ∷ rest → prefix.Neither ≡ prefix_of t.kind → Meets Postfix b ts r → Meets Unary b ts r
-as_postfix (Ok x) e s g = row (peeks e (by unary_by s (passes_level g (gives refl (omega arith)))))
-as_postfix (Err stop) e s g = λ not. row (peeks e (by unary_by s (fails_level (g not))))
+pub as_postfix : (b : ℕ) {ts rest : List Token} {t : Token} (r : Result (Operand × ℕ × Bor (List Token)) Stop) → ts ≡ t ∷ rest → prefix.Neither ≡ prefix_of t.kind → Meets Postfix b ts r → Meets Unary b ts r
+as_postfix b (Ok x) e s g = row (peeks e (by unary_by s (passes_level g (gives refl (omega arith)))))
+as_postfix b (Err stop) e s g = λ not. row (peeks e (by unary_by s (fails_level (g not))))
 
 -- an operand one deeper, after its operator
-pub is_beneath : {b : ℕ} {ts : List Token} (r : Result (Operand × ℕ × Bor (List Token)) Stop) → b + 1 ≤ 200 → Meets Unary (b + 1) ts r
+pub is_beneath : (b : ℕ) (ts : List Token) (r : Result (Operand × ℕ × Bor (List Token)) Stop) → b + 1 ≤ 200 → Meets Unary (b + 1) ts r
     → MatchResult r (λ r. TookBeneath b ts r.0 r.1 r.2.now) (λ e. e ≢ Memory → MissesBeneath b ts e)
-is_beneath (Ok x) fits g = record { row = λ t h rule o live w. rises live refl fits (passes g (as_high (omega arith) w)) }
-is_beneath (Err stop) fits g = λ not. record { row = λ t h rule live. rises live refl fits (fails (g not)) }
+is_beneath b ts (Ok x) fits g = record { row = λ t h rule o live w. rises live refl fits (passes g (as_high (omega arith) w)) }
+is_beneath b ts (Err stop) fits g = λ not. record { row = λ t h rule live. rises live refl fits (fails (g not)) }
 
 -- `++` and `--` after an operand
 live_by_test : (test : Bool) (t : Token) (x : Sign) → step_by test (step_of t.kind) ≡ Some x → is_end t ≡ false
@@ -48,15 +48,15 @@ live_by_test false t x e = absurd (let z : ◌≡◌ {A = Option Sign} None (Som
 pub live_after : (target : Bool) (t : Token) (x : Sign) → Some x ≡ step_after target t → is_end t ≡ false
 live_after target t x e = live_by_test (target && not t.after_newline) t x (sym e)
 
-postfix_test : {b h height : ℕ} {left : Operand} {ts : List Token} {o : Outcome Postfix} (test : Bool) (step : Option Sign)
+postfix_test : {b h : ℕ} (height : ℕ) (left : Operand) {ts : List Token} {o : Outcome Postfix} (test : Bool) (step : Option Sign)
     → Has Postfix b (postfix_by left height (step_by test step)) ts h o → Has Postfix b (either test (postfix_by left height step) (give left)) ts h o
-postfix_test true step w = w
-postfix_test false step w = w
+postfix_test height left true step w = w
+postfix_test height left false step w = w
 
-pub stepped : {b h height : ℕ} {left : Operand} (t : Token) {ts : List Token} {o : Outcome Postfix} (step : Option Sign) → step ≡ step_after left.target t
+pub stepped : {b h : ℕ} (height : ℕ) (left : Operand) (t : Token) {ts : List Token} {o : Outcome Postfix} (step : Option Sign) → step ≡ step_after left.target t
     → Has Postfix b (postfix_by left height step) ts h o → Has Postfix b (postfix_after left height t) ts h o
-stepped {b} {h} {height} {left} t {ts} {o} step e w =
-    postfix_test (left.target && not t.after_newline) (step_of t.kind) (by (λ x. postfix_by left height x) e w)
+stepped {b} {h} height left t {ts} {o} step e w =
+    postfix_test height left (left.target && not t.after_newline) (step_of t.kind) (by (λ x. postfix_by left height x) e w)
 
 deleted_test : {b h height : ℕ} {left : Operand} {ts : List Token} {o : Outcome (Deleted left height)} (test : Bool) (step : Option Sign)
     → Has (Deleted left height) b (deleted_step left height (step_by test step)) ts h o → Has (Deleted left height) b (either test (deleted_step left height step) (deleted left height)) ts h o
@@ -73,22 +73,22 @@ abbrev pub deletes : {left : Operand} {height : ℕ} → Option Expr → Rule (D
 deletes (Some made) = give (plain made)
 deletes None = refuse (Some form.Delete)
 
-deletes_level : {left : Operand} {height : ℕ} (level : ExprLevel) → deletes {left} {height} (delete_of level) ≡ deleted_level {left} {height} true level
-deletes_level (ExprNode-F.Member base key) = refl
-deletes_level _ = refl
+deletes_level : (left : Operand) (height : ℕ) (level : ExprLevel) → ◌≡◌ {A = Rule (Deleted left height)} (deletes (delete_of level)) (deleted_level true level)
+deletes_level left height (ExprNode-F.Member base key) = refl
+deletes_level left height _ = refl
 
-refuses_level : {left : Operand} {height : ℕ} (level : ExprLevel) → refuse (Some form.Delete) ≡ deleted_level {left} {height} false level
-refuses_level _ = refl
+refuses_level : (left : Operand) (height : ℕ) (level : ExprLevel) → ◌≡◌ {A = Rule (Deleted left height)} (refuse (Some form.Delete)) (deleted_level false level)
+refuses_level left height _ = refl
 
 pub as_deleted : {b h height : ℕ} {left : Operand} {ts : List Token} {o : Outcome (Deleted left height)} (r : Option Expr) → left.target ≡ true → r ≡ delete_of (expr_level left.expr)
     → Has (Deleted left height) b (deletes r) ts h o → Has (Deleted left height) b (deleted left height) ts h o
 as_deleted {b} {h} {height} {left} {ts} {o} r t e w =
     subst (λ x. Has (Deleted left height) b (deleted_level x (expr_level left.expr)) ts h o) (sym t)
-    (subst (λ r. Has (Deleted left height) b r ts h o) (deletes_level (expr_level left.expr))
+    (subst (λ r. Has (Deleted left height) b r ts h o) (deletes_level left height (expr_level left.expr))
     (subst (λ x. Has (Deleted left height) b (deletes x) ts h o) e w))
 
 pub not_deleted : {b h height : ℕ} {left : Operand} {ts : List Token} {o : Outcome (Deleted left height)} → left.target ≡ false
     → Has (Deleted left height) b (refuse (Some form.Delete)) ts h o → Has (Deleted left height) b (deleted left height) ts h o
 not_deleted {b} {h} {height} {left} {ts} {o} t w =
     subst (λ x. Has (Deleted left height) b (deleted_level x (expr_level left.expr)) ts h o) (sym t)
-    (subst (λ r. Has (Deleted left height) b r ts h o) (refuses_level (expr_level left.expr)) w)
+    (subst (λ r. Has (Deleted left height) b r ts h o) (refuses_level left height (expr_level left.expr)) w)

@@ -85,13 +85,13 @@ impl<
         if prefixed(&token.kind) {
             let (operand, _, rest) = self.unary(base + 1, rest)?;
             expr(operand.expr);
-            let (token, _) = first(rest)?;
-            return Err(refused(Some(Form::Delete), token));
+            let (next, _) = first(rest)?;
+            return Err(refused(Some(Form::Delete), next));
         }
         if is_word(Reserved::New, token) {
-            let (left, height, rest) = self.new(base + 1, rest)?;
-            let (all, above, rest) = self.deleted(left, height, base, rest)?;
-            return Ok((all, (height + 1).max(above), rest));
+            let (made, tall, rest) = self.new(base + 1, rest)?;
+            let (member, above, rest) = self.deleted(made, tall, base, rest)?;
+            return Ok((member, (tall + 1).max(above), rest));
         }
         let (left, height, rest) = self.primary(base + 1, rest)?;
         let (all, above, rest) = self.deleted(left, height, base, rest)?;

@@ -169,9 +169,9 @@ impl<
     {
         let (token, _) = first(tokens)?;
         if is_word(Reserved::New, token) {
-            let (left, height, rest) = self.new(base, tokens)?;
-            let (all, above, rest) = self.suffixes(calls, left, height, base, rest)?;
-            return Ok((all, height.max(above), rest));
+            let (made, tall, rest) = self.new(base, tokens)?;
+            let (whole, above, rest) = self.suffixes(calls, made, tall, base, rest)?;
+            return Ok((whole, tall.max(above), rest));
         }
         let (left, height, rest) = self.primary(base, tokens)?;
         let (all, above, rest) = self.suffixes(calls, left, height, base, rest)?;
@@ -199,8 +199,9 @@ impl<
         match first(rest) {
             Ok((token, after)) => {
                 if !is(Mark::OpenParen, token) {
-                    let made = exprs::new(self.alloc, callee.expr, Items::new(self.alloc))?;
-                    return Ok((plain(made), height + 1, rest));
+                    let none = Items::new(self.alloc);
+                    let bare = exprs::new(self.alloc, callee.expr, none)?;
+                    return Ok((plain(bare), height + 1, rest));
                 }
                 match self.given(1, base, after) {
                     Ok((all, inner, rest)) => {

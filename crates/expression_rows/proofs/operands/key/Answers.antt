@@ -11,9 +11,9 @@ returns-in_err-token c = handed_on (λ p. TookKey c.args.tokens.now p.0 p.1.now)
     (λ _. record { row = λ n b h rule. peeks_end c.in_err-token.ensures.0 c.in_err-token.ensures.1 })
 
 pub returns-in-Some : goal.returns-in-Some
-returns-in-Some c = let q = sym c.in-Some.is ∙ c.in_ok-key_of.ensures in
+returns-in-Some c = let q = sym c.in-Some.is ∙ c.in_ok-units.ensures in
     record { row = λ n b h rule o w. peeks c.in_ok-token.ensures (by (λ x. fixed x rule) q (eats (live_key _ _ (sym q)) c.in_ok-token.ensures w)) }
 
 pub returns-in-None : goal.returns-in-None
-returns-in-None c _ = record { row = λ n b h rule. peeks c.in_ok-token.ensures (by (λ x. fixed x rule) (sym c.in-None.is ∙ c.in_ok-key_of.ensures) (refuses c.in_ok-token.ensures c.refused.ensures)) }
+returns-in-None c _ = record { row = λ n b h rule. peeks c.in_ok-token.ensures (by (λ x. fixed x rule) (sym c.in-None.is ∙ c.in_ok-units.ensures) (refuses c.in_ok-token.ensures c.refused.ensures)) }
 

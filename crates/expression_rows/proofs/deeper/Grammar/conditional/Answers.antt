@@ -17,15 +17,15 @@ pub returns-then-deep-eq-LIMIT-clause-meets : goal.returns-then-deep-eq-LIMIT-cl
 returns-then-deep-eq-LIMIT-clause-meets g c _ = let q = sym c.is.ensures ∙ c.if-not-is.false in
     row (passes_level c.in_ok-test.ensures.meets (peeks c.in-Ok.ensures (yes _ q (sinks (live_mark m.Question _ q) c.in-Ok.ensures (omega arith)))))
 
-pub returns-in-Ok-in-Ok-clause-meets : goal.returns-in-Ok-in-Ok-clause-meets
-returns-in-Ok-in-Ok-clause-meets g c = let q = sym c.is.ensures ∙ c.if-not-is.false in
+pub returns-in_ok-made-in-Ok-branches-clause-meets : goal.returns-in_ok-made-in-Ok-branches-clause-meets
+returns-in_ok-made-in-Ok-branches-clause-meets g c = let q = sym c.is.ensures ∙ c.if-not-is.false in
     row (passes_level c.in_ok-test.ensures.meets (peeks c.in-Ok.ensures (yes _ q (rises (live_mark m.Question _ q) c.in-Ok.ensures (omega arith)
-    (c.in-Ok-in-Ok.ensures.row.row _ _ _ _ (gives (c.plain.ensures ∙ ap plain c.in_ok-made.ensures) (omega arith)))))))
+    (c.in-Ok-branches.ensures.row.row _ _ _ _ (gives (c.plain.ensures ∙ ap plain c.in_ok-made-in-Ok-branches.ensures) (omega arith)))))))
 
-pub returns-in-Err-in-Ok-clause-meets : goal.returns-in-Err-in-Ok-clause-meets
-returns-in-Err-in-Ok-clause-meets g c not = let q = sym c.is.ensures ∙ c.if-not-is.false in
+pub returns-in-Err-branches-clause-meets : goal.returns-in-Err-branches-clause-meets
+returns-in-Err-branches-clause-meets g c not = let q = sym c.is.ensures ∙ c.if-not-is.false in
     row (passes_level c.in_ok-test.ensures.meets (peeks c.in-Ok.ensures (yes _ q (rises (live_mark m.Question _ q) c.in-Ok.ensures (omega arith)
-    ((c.in-Err-in-Ok.ensures.row not).row _ _ _)))))
+    ((c.in-Err-branches.ensures.row not).row _ _ _)))))
 
 pub returns-in-Err-clause-meets : goal.returns-in-Err-clause-meets
 returns-in-Err-clause-meets g c _ = row (passes_level c.in_ok-test.ensures.meets (peeks_end c.in-Err.ensures.0 c.in-Err.ensures.1))
