@@ -24,9 +24,6 @@ pub operand-returns-in_err-whole-clause-row : goal.operand-returns-in_err-whole-
 operand-returns-in_err-whole-clause-row g t c = handed_on (λ r. TookOperand c.args.calls c.args.base c.args.tokens.now r.0 r.1 r.2.now) (λ e. e ≢ Memory → MissesOperand c.args.calls c.args.base c.args.tokens.now e)
     c.from_residual-in_err-whole.result c.from_residual-in_err-whole.ensures.1 (λ not. record { row = λ n b k h rule so. peeks c.in_ok-token.ensures (yes _ (sym c.is_word.ensures ∙ c.if-is_word.true) (passes_at so c.in_ok-made.ensures.meets (fails_at so (c.in_err-whole.ensures.meets not)))) })
 
-pub operand-returns-in_ok-whole-clause-row : goal.operand-returns-in_ok-whole-clause-row
-operand-returns-in_ok-whole-clause-row g t c = record { row = λ n b k h rule o so w. peeks c.in_ok-token.ensures (yes _ (sym c.is_word.ensures ∙ c.if-is_word.true) (passes_at so c.in_ok-made.ensures.meets (passes_at so c.in_ok-whole.ensures.meets (as_high (omega arith) w)))) }
-
 pub operand-returns-then-is_word-clause-row : goal.operand-returns-then-is_word-clause-row
 operand-returns-then-is_word-clause-row g t c = record { row = λ n b k h rule o so w. peeks c.in_ok-token.ensures (yes _ (sym c.is_word.ensures ∙ c.if-is_word.true) (passes_at so c.in_ok-made.ensures.meets (passes_at so c.in_ok-whole.ensures.meets (as_high (omega arith) w)))) }
 
@@ -53,10 +50,6 @@ new-returns-then-base-eq-LIMIT-clause-meets g t c _ = row (peeks c.in_ok-token.e
 pub new-returns-in_err-callee-clause-meets : goal.new-returns-in_err-callee-clause-meets
 new-returns-in_err-callee-clause-meets g t c = handed New c.args.base (grammar New) c.args.tokens.now c.from_residual-in_err-callee.result c.from_residual-in_err-callee.ensures.1
     (λ not. peeks c.in_ok-token.ensures (yes _ (sym c.is_word.ensures ∙ c.if-not-is_word.false) (rises (live_word w.New _ (sym c.is_word.ensures ∙ c.if-not-is_word.false)) c.in_ok-token.ensures (omega arith) ((c.in_err-callee.ensures.row not).row _ _ 1 _ (λ callee. peek (new_after callee.expr)) refl))))
-
-pub new-returns-in_ok-bare-in-Ok-clause-meets : goal.new-returns-in_ok-bare-in-Ok-clause-meets
-new-returns-in_ok-bare-in-Ok-clause-meets g t c = row (peeks c.in_ok-token.ensures (yes _ (sym c.is_word.ensures ∙ c.if-not-is_word.false) (rises (live_word w.New _ (sym c.is_word.ensures ∙ c.if-not-is_word.false)) c.in_ok-token.ensures (omega arith) (c.in_ok-callee.ensures.row.row _ _ 1 _ (λ callee. peek (new_after callee.expr)) _ refl
-    (peeks c.in-Ok.ensures (no _ (sym c.is.ensures ∙ c.if-not-is.true) (gives (c.plain.ensures ∙ ap plain c.in_ok-bare-in-Ok.ensures ∙ ap (λ x. plain (e.New c.in_ok-callee.callee.expr x)) c.new-none.ensures) (omega arith))))))))
 
 pub new-returns-then-not-is-clause-meets : goal.new-returns-then-not-is-clause-meets
 new-returns-then-not-is-clause-meets g t c = row (peeks c.in_ok-token.ensures (yes _ (sym c.is_word.ensures ∙ c.if-not-is_word.false) (rises (live_word w.New _ (sym c.is_word.ensures ∙ c.if-not-is_word.false)) c.in_ok-token.ensures (omega arith) (c.in_ok-callee.ensures.row.row _ _ 1 _ (λ callee. peek (new_after callee.expr)) _ refl

@@ -60,9 +60,6 @@ pub delete-returns-in_err-next-clause-after : goal.delete-returns-in_err-next-cl
 delete-returns-in_err-next-clause-after g t c u live = handed Unary c.args.base (unary_by prefix.Delete) (u ∷ c.args.rest.now) c.from_residual-in_err-next.result c.from_residual-in_err-next.ensures.1
     (λ not. rises live refl (omega arith) (peeks c.in_ok-token.ensures (yes _ (sym c.prefixed.ensures ∙ c.if-prefixed.true) (passes c.in_ok-operand.ensures.meets (refuses_end _ c.in_err-next.ensures.0 c.in_err-next.ensures.1)))))
 
-pub delete-returns-in_ok-next-clause-after : goal.delete-returns-in_ok-next-clause-after
-delete-returns-in_ok-next-clause-after g t c u live _ = row (rises live refl (omega arith) (peeks c.in_ok-token.ensures (yes _ (sym c.prefixed.ensures ∙ c.if-prefixed.true) (passes c.in_ok-operand.ensures.meets (refuses c.in_ok-next.ensures c.refused.ensures)))))
-
 pub delete-returns-then-prefixed-clause-after : goal.delete-returns-then-prefixed-clause-after
 delete-returns-then-prefixed-clause-after g t c u live _ = row (rises live refl (omega arith) (peeks c.in_ok-token.ensures (yes _ (sym c.prefixed.ensures ∙ c.if-prefixed.true) (passes c.in_ok-operand.ensures.meets (refuses c.in_ok-next.ensures c.refused.ensures)))))
 
@@ -73,9 +70,6 @@ delete-returns-in_err-made-clause-after g t c u live = handed Unary c.args.base 
 pub delete-returns-in_err-member-clause-after : goal.delete-returns-in_err-member-clause-after
 delete-returns-in_err-member-clause-after g t c u live = handed Unary c.args.base (unary_by prefix.Delete) (u ∷ c.args.rest.now) c.from_residual-in_err-member.result c.from_residual-in_err-member.ensures.1
     (λ not. rises live refl (omega arith) (peeks c.in_ok-token.ensures (no _ (sym c.prefixed.ensures ∙ c.if-prefixed.false) (yes _ (sym c.is_word.ensures ∙ c.if-is_word.true) (passes c.in_ok-made.ensures.meets (fails_level (c.in_err-member.ensures.meets not)))))))
-
-pub delete-returns-in_ok-member-clause-after : goal.delete-returns-in_ok-member-clause-after
-delete-returns-in_ok-member-clause-after g t c u live = row (rises live refl (omega arith) (peeks c.in_ok-token.ensures (no _ (sym c.prefixed.ensures ∙ c.if-prefixed.false) (yes _ (sym c.is_word.ensures ∙ c.if-is_word.true) (passes c.in_ok-made.ensures.meets (passes_level c.in_ok-member.ensures.meets (gives refl (omega arith))))))))
 
 pub delete-returns-then-is_word-clause-after : goal.delete-returns-then-is_word-clause-after
 delete-returns-then-is_word-clause-after g t c u live = row (rises live refl (omega arith) (peeks c.in_ok-token.ensures (no _ (sym c.prefixed.ensures ∙ c.if-prefixed.false) (yes _ (sym c.is_word.ensures ∙ c.if-is_word.true) (passes c.in_ok-made.ensures.meets (passes_level c.in_ok-member.ensures.meets (gives refl (omega arith))))))))

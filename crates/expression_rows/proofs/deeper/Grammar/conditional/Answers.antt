@@ -1,4 +1,4 @@
-use Rattle.std.proofs.Common.{refl, ap, sym, ◌∙◌, arith}
+use Rattle.std.proofs.Common.{◌+◌, ◌≤◌, refl, ap, sym, ◌∙◌, arith}
 use Rattle.js_lexer.specs.declared.Mark.TheVariants as m
 use Rattle.script_grammar.specs.Grammar.{grammar, plain}
 use Rattle.script_grammar.specs.Rules.Symbol.{Conditional}
@@ -18,13 +18,13 @@ returns-then-deep-eq-LIMIT-clause-meets g c _ = let q = sym c.is.ensures ∙ c.i
     row (passes_level c.in_ok-test.ensures.meets (peeks c.in-Ok.ensures (yes _ q (sinks (live_mark m.Question _ q) c.in-Ok.ensures (omega arith)))))
 
 pub returns-in_ok-made-in-Ok-branches-clause-meets : goal.returns-in_ok-made-in-Ok-branches-clause-meets
-returns-in_ok-made-in-Ok-branches-clause-meets g c = let q = sym c.is.ensures ∙ c.if-not-is.false in
-    row (passes_level c.in_ok-test.ensures.meets (peeks c.in-Ok.ensures (yes _ q (rises (live_mark m.Question _ q) c.in-Ok.ensures (omega arith)
+returns-in_ok-made-in-Ok-branches-clause-meets g c = let low : c.args.base + c.in_ok-test.height ≤ 200 = c.in_ok-test.ensures.small in let q = sym c.is.ensures ∙ c.if-not-is.false in
+    row (passes_level c.in_ok-test.ensures.meets (peeks c.in-Ok.ensures (yes _ q (rises (live_mark m.Question _ q) c.in-Ok.ensures (omega (arith, low))
     (c.in-Ok-branches.ensures.row.row _ _ _ _ (gives (c.plain.ensures ∙ ap plain c.in_ok-made-in-Ok-branches.ensures) (omega arith)))))))
 
 pub returns-in-Err-branches-clause-meets : goal.returns-in-Err-branches-clause-meets
-returns-in-Err-branches-clause-meets g c not = let q = sym c.is.ensures ∙ c.if-not-is.false in
-    row (passes_level c.in_ok-test.ensures.meets (peeks c.in-Ok.ensures (yes _ q (rises (live_mark m.Question _ q) c.in-Ok.ensures (omega arith)
+returns-in-Err-branches-clause-meets g c not = let low : c.args.base + c.in_ok-test.height ≤ 200 = c.in_ok-test.ensures.small in let q = sym c.is.ensures ∙ c.if-not-is.false in
+    row (passes_level c.in_ok-test.ensures.meets (peeks c.in-Ok.ensures (yes _ q (rises (live_mark m.Question _ q) c.in-Ok.ensures (omega (arith, low))
     ((c.in-Err-branches.ensures.row not).row _ _ _)))))
 
 pub returns-in-Err-clause-meets : goal.returns-in-Err-clause-meets

@@ -1,4 +1,4 @@
-use Rattle.std.proofs.Common.{refl, ap, sym, ◌∙◌, arith}
+use Rattle.std.proofs.Common.{◌+◌, ◌≤◌, refl, ap, sym, ◌∙◌, arith}
 use Rattle.script_grammar.specs.Grammar.{grammar, plain}
 use Rattle.script_grammar.specs.Rules.Symbol.{Postfix}
 use Rattle.script_grammar.proofs.Along.{row, gives, peeks, peeks_end, rises, sinks, passes_level, fails_level, handed}
@@ -12,7 +12,7 @@ pub returns-then-deep-eq-LIMIT-clause-meets : goal.returns-then-deep-eq-LIMIT-cl
 returns-then-deep-eq-LIMIT-clause-meets g c _ = row (passes_level c.in_ok-left.ensures.meets (peeks c.in-Ok.ensures (stepped c.in_ok-left.height c.in_ok-left.left c.in-Ok.token.now _ c.in-Some.ensures (sinks (live_after c.in_ok-left.left.target c.in-Ok.token.now _ c.in-Some.ensures) c.in-Ok.ensures (omega arith)))))
 
 pub returns-in_ok-made-in-Some-clause-meets : goal.returns-in_ok-made-in-Some-clause-meets
-returns-in_ok-made-in-Some-clause-meets g c = row (passes_level c.in_ok-left.ensures.meets (peeks c.in-Ok.ensures (stepped c.in_ok-left.height c.in_ok-left.left c.in-Ok.token.now _ c.in-Some.ensures (rises (live_after c.in_ok-left.left.target c.in-Ok.token.now _ c.in-Some.ensures) c.in-Ok.ensures (omega arith)
+returns-in_ok-made-in-Some-clause-meets g c = let low : c.args.base + c.in_ok-left.height ≤ 200 = c.in_ok-left.ensures.small in row (passes_level c.in_ok-left.ensures.meets (peeks c.in-Ok.ensures (stepped c.in_ok-left.height c.in_ok-left.left c.in-Ok.token.now _ c.in-Some.ensures (rises (live_after c.in_ok-left.left.target c.in-Ok.token.now _ c.in-Some.ensures) c.in-Ok.ensures (omega (arith, low))
     (gives (c.plain.ensures ∙ ap plain c.in_ok-made-in-Some.ensures) (omega arith))))))
 
 pub returns-in-None-clause-meets : goal.returns-in-None-clause-meets

@@ -12,9 +12,6 @@ returns-then-base-eq-LIMIT-clause-after g c t live _ = row (sinks live refl (ome
 pub returns-in_err-operand-clause-after : goal.returns-in_err-operand-clause-after
 returns-in_err-operand-clause-after g c t live = handed Unary c.args.base (unary_by (prefix.Update c.args.step)) (t ∷ c.args.rest.now) c.from_residual.result c.from_residual.ensures.1 (λ not. rises live refl (omega arith) (fails (c.in_err-operand.ensures.meets not)))
 
-pub returns-in_ok-made-clause-after : goal.returns-in_ok-made-clause-after
-returns-in_ok-made-clause-after g c t live = row (rises live refl (omega arith) (passes c.in_ok-operand.ensures.meets (yes _ c.if-operand.true (gives (c.plain.ensures ∙ ap plain c.in_ok-made.ensures) (omega arith)))))
-
 pub returns-then-operand-clause-after : goal.returns-then-operand-clause-after
 returns-then-operand-clause-after g c t live = row (rises live refl (omega arith) (passes c.in_ok-operand.ensures.meets (yes _ c.if-operand.true (gives (c.plain.ensures ∙ ap plain c.in_ok-made.ensures) (omega arith)))))
 
