@@ -4,11 +4,11 @@ ghost use Rattle.std.specs.Prelude.{◌≤◌, ◌+◌, true, [], IfOk};
 ghost use Rattle.script_grammar.specs.Meets.{Assigns, Bodies, Ones, Meets};
 ghost use Rattle.script_grammar.specs.Rules.Symbol.{Assign, Elements, Statement};
 
+use js_lexer::Token;
+use js_tree::{Script, Stmt};
 use script_grammar::classes::{Around, Operand};
 use script_grammar::steps::Read;
 use script_grammar::stop::Stop;
-use js_lexer::Token;
-use js_tree::{Script, Stmt};
 use std::alloc::Global;
 
 /// The functions that read what stands at this depth or deeper.

@@ -5,14 +5,14 @@ ghost use Rattle.script_grammar.specs.Meets.{Assigns, Meets, TookEnclosed, Misse
 ghost use Rattle.script_grammar.specs.Rules.Symbol.{Commas, Expr};
 ghost use Rattle.script_grammar.specs.declared.stop.Stop.TheVariants.{Memory};
 
-use script_grammar::classes::{Around, Operand};
-use script_grammar::classify::is;
 use crate::deeper::Grammar;
 use crate::makers::plain;
-use script_grammar::steps::{LIMIT, Read, expect, first};
-use script_grammar::stop::Stop;
 use js_lexer::{Mark, Token};
 use js_tree::{Script, Stmt};
+use script_grammar::classes::{Around, Operand};
+use script_grammar::classify::is;
+use script_grammar::steps::{LIMIT, Read, expect, first};
+use script_grammar::stop::Stop;
 use std::alloc::Global;
 use tree_drops::expr;
 use tree_makers::exprs;

@@ -5,14 +5,14 @@ ghost use Rattle.script_grammar.specs.Meets.{Assigns, Meets, TookArguments, Miss
 ghost use Rattle.script_grammar.specs.Rules.Symbol.{Arguments, Items as Elements, Fields};
 ghost use Rattle.script_grammar.specs.declared.stop.Stop.TheVariants.{Memory};
 
+use crate::deeper::Grammar;
+use js_lexer::{Mark, Token};
+use js_tree::{Expr, Field, Script, Stmt};
 use script_grammar::Form;
 use script_grammar::classes::{Around, Operand};
 use script_grammar::classify::{is, literal_key_of};
-use crate::deeper::Grammar;
 use script_grammar::steps::{Read, expect, first, refused};
 use script_grammar::stop::Stop;
-use js_lexer::{Mark, Token};
-use js_tree::{Expr, Field, Script, Stmt};
 use sqlite_items::Items;
 use std::alloc::Global;
 use tree_drops::{expr, exprs, exprs_with, fields, fields_with};

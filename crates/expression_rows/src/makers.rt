@@ -5,9 +5,9 @@ ghost use Rattle.script_grammar.specs.Grammar as grammar;
 ghost use Rattle.js_tree.specs.Trees.{expr_of, unbound};
 ghost use Rattle.js_tree.specs.declared.ExprNode.TheVariants as node;
 
-use script_grammar::classes::{Infix, Operand};
 use js_lexer::CallWord;
 use js_tree::Expr;
+use script_grammar::classes::{Infix, Operand};
 use std::alloc::Global;
 use tree_makers::exprs;
 use turk_base::{NoMemory, Units};

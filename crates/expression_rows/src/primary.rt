@@ -8,15 +8,15 @@ ghost use Rattle.script_grammar.specs.Rules.Symbol.{Primary};
 ghost use Rattle.script_grammar.specs.declared.classes.Head.TheVariants as head;
 ghost use Rattle.script_grammar.specs.declared.stop.Stop.TheVariants.{Memory};
 
+use crate::deeper::Grammar;
+use crate::makers::{called, called_alone, named, plain};
+use js_lexer::{CallWord, Mark, Token};
+use js_tree::{Script, Stmt};
 use script_grammar::Form;
 use script_grammar::classes::{Around, Head, Name, Operand};
 use script_grammar::classify::{head_of, is};
-use crate::deeper::Grammar;
-use crate::makers::{called, called_alone, named, plain};
 use script_grammar::steps::{LIMIT, Read, beyond, expect, first, name, parameters, refused};
 use script_grammar::stop::Stop;
-use js_lexer::{CallWord, Mark, Token};
-use js_tree::{Script, Stmt};
 use sqlite_items::Items;
 use std::alloc::Global;
 use tree_drops as drops;
@@ -30,6 +30,7 @@ pub fn leaf<'a>(base: u32, made: Operand, rest: &'a [Token]) -> Read<'a, Operand
     ensures small { IfOk result (λ r. base + r.1 ≤ 200) }
 {
     if base == LIMIT {
+        drops::expr(made.expr);
         return Err(Stop::Nesting);
     }
     Ok((made, 1, rest))

@@ -5,3 +5,5 @@
 
 pub mod exprs;
 pub mod stmts;
+#[cfg(test)]
+mod tests;

@@ -3,7 +3,7 @@ use Rattle.js_lexer.specs.declared.Mark.TheVariants as m
 use Rattle.script_grammar.specs.Meets.{TookElementEnd, MissesElementEnd}
 use Rattle.script_grammar.proofs.Along.{peeks, peeks_end, eats, yes, no, handed_on}
 use Rattle.script_grammar.proofs.Tokens.{live_mark}
-use Rattle.script_grammar.proofs.lists.element_end.Goals as goal
+use Rattle.expression_rows.proofs.lists.element_end.Goals as goal
 
 pub returns-in_err-token : goal.returns-in_err-token
 returns-in_err-token c = handed_on (λ r. TookElementEnd c.args.tokens.now r.0 r.1.now) (λ e. MissesElementEnd c.args.tokens.now e) c.from_residual.result c.from_residual.ensures.1
@@ -22,12 +22,12 @@ returns-in_err-token-2 c = let q = sym c.is.ensures ∙ c.if-not-is.false in han
 
 pub returns-then-is : goal.returns-then-is
 returns-then-is c = let q = sym c.is.ensures ∙ c.if-not-is.false in record {
-  row = λ so_far one b h o w. peeks c.in_ok-token.ensures (yes _ q (eats (live_mark m.Comma _ q) c.in_ok-token.ensures (peeks c.in_ok-token-2.ensures (yes _ (sym c.is-2.ensures ∙ c.if-is-2.true) w))));
+  row = λ so_far one b h o w. peeks c.in_ok-token.ensures (yes _ q (eats (live_mark m.Comma _ q) c.in_ok-token.ensures (peeks c.in_ok-token-2.ensures (yes _ (sym c.is-2.ensures ∙ c.if-is.true) w))));
   shorter = λ e. absurd (let x : false ≡ true = e in cc);
 }
 
 pub returns-else-is : goal.returns-else-is
 returns-else-is c = let q = sym c.is.ensures ∙ c.if-not-is.false in record {
-  row = λ so_far one b h o w. peeks c.in_ok-token.ensures (yes _ q (eats (live_mark m.Comma _ q) c.in_ok-token.ensures (peeks c.in_ok-token-2.ensures (no _ (sym c.is-2.ensures ∙ c.if-is-2.false) w))));
+  row = λ so_far one b h o w. peeks c.in_ok-token.ensures (yes _ q (eats (live_mark m.Comma _ q) c.in_ok-token.ensures (peeks c.in_ok-token-2.ensures (no _ (sym c.is-2.ensures ∙ c.if-is.false) w))));
   shorter = λ _. omega (arith, ap length c.in_ok-token.ensures);
 }

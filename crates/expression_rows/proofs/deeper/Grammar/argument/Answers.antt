@@ -6,7 +6,7 @@ use Rattle.script_grammar.specs.Meets.{TookItem, MissesItem, after_argument}
 use Rattle.script_grammar.proofs.Along.{peeks, peeks_end, eats, yes, no, passes_level, fails_level, handed_on}
 use Rattle.script_grammar.proofs.Generic.{shorter}
 use Rattle.script_grammar.proofs.Tokens.{live_mark}
-use Rattle.script_grammar.proofs.deeper.Grammar.argument.Goals as goal
+use Rattle.expression_rows.proofs.deeper.Grammar.argument.Goals as goal
 
 pub returns-in_err-one-clause-item : goal.returns-in_err-one-clause-item
 returns-in_err-one-clause-item g c = handed_on (λ r. TookItem Arguments after_argument c.args.base c.args.tokens.now r.0 r.1 r.2 r.3.now) (λ e. e ≢ Memory → MissesItem Arguments c.args.base c.args.tokens.now e)

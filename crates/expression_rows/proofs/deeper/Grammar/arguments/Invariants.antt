@@ -1,9 +1,9 @@
 use Rattle.std.proofs.Common.{◌+◌, ◌≤◌, length}
 use Rattle.script_grammar.proofs.Repeated.{SoArguments}
-use Rattle.script_grammar.proofs.deeper.Grammar.arguments.Given as goal
+use Rattle.expression_rows.proofs.deeper.Grammar.arguments.Given as goal
 
-abbrev pub invariant-loop-all : goal.invariant-loop-all
-invariant-loop-all g l = record { so_far : SoArguments l.base l.all l.tall l.left l.tokens; small : l.base + l.tall ≤ 200 }
+abbrev pub invariant-loop-one : goal.invariant-loop-one
+invariant-loop-one g l = record { so_far : SoArguments l.base l.all l.tall l.left l.tokens; small : l.base + l.tall ≤ 200 }
 
-abbrev pub decreases-loop-all : goal.decreases-loop-all
-decreases-loop-all g l = length l.left
+abbrev pub decreases-loop-one : goal.decreases-loop-one
+decreases-loop-one g l = length l.left

@@ -4,7 +4,7 @@ use Rattle.script_grammar.specs.Rules.Symbol.{Items}
 use Rattle.script_grammar.specs.Meets.{TookItem, MissesItem, after_element}
 use Rattle.script_grammar.proofs.Along.{peeks, peeks_end, refuses, yes, no, passes_level, fails_level, handed_on}
 use Rattle.script_grammar.proofs.Generic.{shorter}
-use Rattle.script_grammar.proofs.deeper.Grammar.element.Goals as goal
+use Rattle.expression_rows.proofs.deeper.Grammar.element.Goals as goal
 
 pub returns-in_err-token-clause-item : goal.returns-in_err-token-clause-item
 returns-in_err-token-clause-item g c = handed_on (λ r. TookItem Items after_element c.args.base c.args.tokens.now r.0 r.1 r.2 r.3.now) (λ e. e ≢ Memory → MissesItem Items c.args.base c.args.tokens.now e)

@@ -2,7 +2,7 @@ use Rattle.std.proofs.Common.{◌≢◌}
 use Rattle.script_grammar.specs.declared.stop.Stop.TheVariants.{Memory}
 use Rattle.script_grammar.specs.Meets.{TookEnclosed, MissesEnclosed}
 use Rattle.script_grammar.proofs.Along.{passes, fails, expects, misses, handed_on}
-use Rattle.script_grammar.proofs.deeper.Grammar.enclosed.Goals as goal
+use Rattle.expression_rows.proofs.deeper.Grammar.enclosed.Goals as goal
 
 pub returns-in_err-inner-clause-row : goal.returns-in_err-inner-clause-row
 returns-in_err-inner-clause-row g c = handed_on (λ r. TookEnclosed c.args.close c.args.base c.args.tokens.now r.0 r.1 r.2.now) (λ e. e ≢ Memory → MissesEnclosed c.args.close c.args.base c.args.tokens.now e)

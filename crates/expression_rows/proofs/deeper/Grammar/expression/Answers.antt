@@ -1,8 +1,8 @@
-use Rattle.std.proofs.Common.{◌≢◌, refl, arith}
+use Rattle.std.proofs.Common.{refl, arith}
 use Rattle.script_grammar.specs.Grammar.{grammar}
 use Rattle.script_grammar.specs.Rules.Symbol.{Expr}
 use Rattle.script_grammar.proofs.Along.{row, gives, passes_level, fails_level, handed}
-use Rattle.script_grammar.proofs.deeper.Grammar.expression.Goals as goal
+use Rattle.expression_rows.proofs.deeper.Grammar.expression.Goals as goal
 
 pub returns-in_err-left-clause-meets : goal.returns-in_err-left-clause-meets
 returns-in_err-left-clause-meets g c = handed (Expr c.args.no_in) c.args.base (grammar (Expr c.args.no_in)) c.args.tokens.now c.from_residual.result c.from_residual.ensures.1

@@ -4,7 +4,7 @@ use Rattle.script_grammar.specs.declared.stop.Stop.TheVariants.{Memory}
 use Rattle.script_grammar.specs.Meets.{TookArguments, MissesArguments}
 use Rattle.script_grammar.proofs.Along.{peeks, peeks_end, eats, by, yes, no, passes, fails, expects, misses, as_high, handed_on}
 use Rattle.script_grammar.proofs.Tokens.{live_mark}
-use Rattle.script_grammar.proofs.deeper.Grammar.given.Goals as goal
+use Rattle.expression_rows.proofs.deeper.Grammar.given.Goals as goal
 
 pub returns-in_err-token-clause-row : goal.returns-in_err-token-clause-row
 returns-in_err-token-clause-row g c = handed_on (λ r. TookArguments c.args.base c.args.levels c.args.tokens.now r.0 r.1 r.2.now) (λ e. e ≢ Memory → MissesArguments c.args.base c.args.levels c.args.tokens.now e)
