@@ -1,2 +1,4 @@
 pub mod Levels
+pub mod Unaries
+pub mod Members
 mod Commas

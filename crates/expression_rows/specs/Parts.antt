@@ -1,4 +1,20 @@
--- ---- parts of the rows of operators
+-- Parts of the rows of expressions: what a row does after the part, it does with the part before it.
+use Rattle.std.specs.Prelude.{◌≡◌, ◌≢◌, ℕ, ◌+◌, max, Bool, true, false, not, ◌&&◌, List, ◌∷◌, Result, Ok, Err, Option, Some, None}
+use Rattle.std.specs.Borrow.{Bor}
+use Rattle.js_lexer.specs.declared.Mark.TheVariants as m
+use Rattle.js_lexer.specs.declared.Token.{Token}
+use Rattle.js_tree.specs.declared.Key.TheVariants as k
+use Rattle.js_tree.specs.declared.Sign.{Sign}
+use Rattle.script_grammar.specs.declared.stop.Stop.{Stop}
+use Rattle.script_grammar.specs.declared.stop.Stop.TheVariants.{Memory}
+use Rattle.script_grammar.specs.declared.classes.Operand.{Operand}
+use Rattle.script_grammar.specs.Exprs as e
+use Rattle.script_grammar.specs.Words.{Units, is_end, key_of, step_of}
+use Rattle.script_grammar.specs.Rules.{Symbol, Rule, Outcome}
+use Rattle.script_grammar.specs.Rules.Rule.{node, peek, read}
+use Rattle.script_grammar.specs.Rules.Symbol.{Assign, Expr, Unary}
+use Rattle.script_grammar.specs.Grammar.{a_member, expect, fixed, given_at, plain, with_suffixes}
+use Rattle.script_grammar.specs.Meets.{Has}
 
 -- the two parts of a conditional, one deeper, with the colon between them
 abbrev pub branches : {n : Symbol} → (no_in : Bool) → (Operand → Operand → Rule n) → Rule n
@@ -10,7 +26,7 @@ pub record TookBranches (no_in : Bool) (b : ℕ) (ts : List Token) (one two : Op
 pub record MissesBranches (no_in : Bool) (b : ℕ) (ts : List Token) (e : Stop) : Type 0 where
   pub row : (n : Symbol) (h : ℕ) (rule : Operand → Operand → Rule n) → Has n b (branches no_in rule) ts h (Err e)
 
--- the operand of an operator before it
+-- an operator before an operand, and the operand, one deeper
 abbrev pub beneath : (Operand → Rule Unary) → Rule Unary
 beneath rule = node 1 (read 1 Unary (λ v _. rule v))
 
@@ -19,6 +35,14 @@ pub record TookBeneath (b : ℕ) (ts : List Token) (value : Operand) (height : �
 
 pub record MissesBeneath (b : ℕ) (ts : List Token) (e : Stop) : Type 0 where
   pub row : (t : Token) (h : ℕ) (rule : Operand → Rule Unary) → is_end t ≡ false → Has Unary b (beneath rule) (t ∷ ts) h (Err e)
+
+-- `++` or `--` after an operand: the operand is a target, and no line ends before the operator
+abbrev pub step_by : Bool → Option Sign → Option Sign
+step_by true step = step
+step_by false step = None
+
+abbrev pub step_after : (target : Bool) → Token → Option Sign
+step_after target t = step_by (target && not t.after_newline) (step_of t.kind)
 
 -- the key after a dot
 abbrev pub a_key : {n : Symbol} → (Units → Rule n) → Rule n
@@ -40,6 +64,7 @@ fixed_part left height n rule = node (height + 1) (a_key (λ key. rule (a_member
 abbrev pub call_part : (levels : ℕ) (left : Operand) (height : ℕ) (n : Symbol) → (Operand → ℕ → Rule n) → Rule n
 call_part levels left height n rule = node (height + levels) (given_at levels (λ all h. rule (plain (e.Call left.expr all)) (max (height + 1) (h + 1))))
 
+-- the part was read, where the levels of nodes in it are so many more than the height of what it makes
 pub record TookPart (b : ℕ) (part : (n : Symbol) → (Operand → ℕ → Rule n) → Rule n) (extra : ℕ) (ts : List Token) (made : Operand) (tall : ℕ) (rest : List Token) : Type 0 where
   pub row : (t : Token) (n : Symbol) (h : ℕ) (rule : Operand → ℕ → Rule n) (o : Outcome n) → is_end t ≡ false → Has n b (rule made tall) rest (max h (tall + extra)) o → Has n b (part n rule) (t ∷ ts) h o
 

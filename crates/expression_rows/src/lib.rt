@@ -9,4 +9,5 @@ pub mod expressions;
 pub mod primary;
 pub mod operands;
 pub mod unary;
+pub mod delete;
 pub mod operators;

@@ -1,7 +1,8 @@
 //! An operand with what stands after it: members, calls and `new`.
 
-ghost use Rattle.std.specs.Prelude.{◌≤◌, ◌<◌, ◌+◌, ◌≢◌, false, true, [], IfOk, MatchResult};
-ghost use Rattle.script_grammar.specs.Meets.{Assigns, Bodies, Meets, Part, TookKey, MissesKey, TookOperand, MissesOperand, computed_part, fixed_part, call_part};
+ghost use Rattle.std.specs.Prelude.{◌≤◌, ◌<◌, ◌+◌, ◌-◌, ◌≢◌, IfOk, MatchResult};
+ghost use Rattle.script_grammar.specs.Meets.{Assigns, Bodies, Meets};
+ghost use Rattle.expression_rows.specs.Parts.{Part, TookKey, MissesKey, TookOperand, MissesOperand, computed_part, fixed_part, call_part};
 ghost use Rattle.script_grammar.specs.Rules.Symbol.{Left, New, Suffixes};
 ghost use Rattle.script_grammar.specs.declared.stop.Stop.TheVariants.{Memory};
 
@@ -92,7 +93,8 @@ impl<
         requires base { base + height ≤ 200 }
         requires levels { 1 ≤ levels }
         requires few { levels ≤ 2 }
-        ensures part { Part base (call_part levels left height) levels after.now result }
+        ensures part { Part base (call_part levels left height) (levels - 1) after.now result }
+        ensures grown { IfOk result (λ r. height < r.1) }
         ensures small { IfOk result (λ r. base + r.1 + levels ≤ 201) }
     {
         if base + height + levels > LIMIT {
@@ -167,9 +169,9 @@ impl<
     {
         let (token, _) = first(tokens)?;
         if is_word(Reserved::New, token) {
-            let (left, height, rest) = self.new(base, tokens)?;
-            let (all, above, rest) = self.suffixes(calls, left, height, base, rest)?;
-            return Ok((all, height.max(above), rest));
+            let (made, tall, rest) = self.new(base, tokens)?;
+            let (whole, above, rest) = self.suffixes(calls, made, tall, base, rest)?;
+            return Ok((whole, tall.max(above), rest));
         }
         let (left, height, rest) = self.primary(base, tokens)?;
         let (all, above, rest) = self.suffixes(calls, left, height, base, rest)?;
@@ -197,8 +199,9 @@ impl<
         match first(rest) {
             Ok((token, after)) => {
                 if !is(Mark::OpenParen, token) {
-                    let made = exprs::new(self.alloc, callee.expr, Items::new(self.alloc))?;
-                    return Ok((plain(made), height + 1, rest));
+                    let none = Items::new(self.alloc);
+                    let bare = exprs::new(self.alloc, callee.expr, none)?;
+                    return Ok((plain(bare), height + 1, rest));
                 }
                 match self.given(1, base, after) {
                     Ok((all, inner, rest)) => {

@@ -2,7 +2,8 @@
 
 ghost use Rattle.std.specs.Prelude.{◌≤◌, ◌+◌, ◌<◌, ◌≢◌, Some, IfOk, MatchResult};
 ghost use Rattle.script_grammar.specs.Grammar.{more_by};
-ghost use Rattle.script_grammar.specs.Meets.{Assigns, Bodies, After, Meets, TookBranches, MissesBranches};
+ghost use Rattle.script_grammar.specs.Meets.{Assigns, Bodies, After, Meets};
+ghost use Rattle.expression_rows.specs.Parts.{TookBranches, MissesBranches};
 ghost use Rattle.script_grammar.specs.Rules.Symbol.{Assign, Binary, Conditional, More};
 ghost use Rattle.script_grammar.specs.declared.stop.Stop.TheVariants.{Memory};
 

@@ -1,8 +1,11 @@
 //! Operators before an operand, and `++` and `--` after one.
 
-ghost use Rattle.std.specs.Prelude.{◌≤◌, ◌+◌, ◌≢◌, IfOk, MatchResult};
-ghost use Rattle.script_grammar.specs.Meets.{Assigns, Bodies, Meets, TookBeneath, MissesBeneath};
+ghost use Rattle.std.specs.Prelude.{◌≤◌, ◌+◌, ◌≡◌, ◌≢◌, IfOk, MatchResult};
+ghost use Rattle.expression_rows.specs.Parts.{TookBeneath, MissesBeneath, step_after};
+ghost use Rattle.script_grammar.specs.Grammar.{unary_by};
+ghost use Rattle.script_grammar.specs.Meets.{Assigns, After, Bodies, Meets};
 ghost use Rattle.script_grammar.specs.Rules.Symbol.{Postfix, Unary};
+ghost use Rattle.script_grammar.specs.declared.classes.Prefix.TheVariants as prefix;
 ghost use Rattle.script_grammar.specs.declared.stop.Stop.TheVariants.{Memory};
 
 use script_grammar::classes::{Around, Operand, Prefix};
@@ -12,10 +15,21 @@ use crate::makers::plain;
 use script_grammar::steps::{LIMIT, Read, first, refused};
 use script_grammar::stop::Stop;
 use js_lexer::Token;
-use js_tree::{Fix, Script, Stmt};
+use js_tree::{Fix, Script, Sign, Stmt};
 use std::alloc::Global;
 use tree_drops::expr;
 use tree_makers::exprs;
+
+/// The operator `++` or `--` that stands after an operand, on its line; a target alone takes one.
+pub fn step_after(target: bool, token: &Token) -> Option<Sign>
+    ensures { result ≡ step_after target token.now }
+{
+    if target && !token.after_newline {
+        step_of(&token.kind)
+    } else {
+        None
+    }
+}
 
 impl<
     F: Fn(Global, bool, u32, &[Token]) -> Result<(Operand, u32, &[Token]), Stop>,
@@ -101,23 +115,18 @@ impl<
     {
         let (left, height, rest) = self.left(base, tokens)?;
         match first(rest) {
-            Ok((token, after)) => {
-                if !(left.target && !token.after_newline) {
-                    return Ok((left, height, rest));
-                }
-                match step_of(&token.kind) {
-                    Some(step) => {
-                        let deep = base + height;
-                        if deep == LIMIT {
-                            expr(left.expr);
-                            return Err(Stop::Nesting);
-                        }
-                        let made = exprs::update(self.alloc, left.expr, step, Fix::Postfix)?;
-                        Ok((plain(made), height + 1, after))
+            Ok((token, after)) => match step_after(left.target, token) {
+                Some(step) => {
+                    let deep = base + height;
+                    if deep == LIMIT {
+                        expr(left.expr);
+                        return Err(Stop::Nesting);
                     }
-                    None => Ok((left, height, rest)),
+                    let made = exprs::update(self.alloc, left.expr, step, Fix::Postfix)?;
+                    Ok((plain(made), height + 1, after))
                 }
-            }
+                None => Ok((left, height, rest)),
+            },
             Err(stop) => {
                 expr(left.expr);
                 Err(stop)
