@@ -7,21 +7,26 @@ ghost use Rattle.script_grammar.specs.Meets.{Assigns, After, Bodies, Follows, Me
 ghost use Rattle.script_grammar.specs.Rules.Symbol.{Deleted, Unary};
 ghost use Rattle.script_grammar.specs.declared.classes.Prefix.TheVariants as prefix;
 
-use script_grammar::Form;
-use script_grammar::classes::{Around, Operand, Tail};
-use script_grammar::classify::{is_word, prefixed, tail_of};
 use crate::deeper::Grammar;
 use crate::makers::plain;
 use crate::unary::step_after;
-use script_grammar::steps::{LIMIT, Read, first, refused};
-use script_grammar::stop::Stop;
 use js_lexer::{Reserved, Token};
 use js_tree::{Script, Stmt};
+use script_grammar::Form;
+use script_grammar::classes::{Around, Operand, Tail};
+use script_grammar::classify::{is_word, prefixed, tail_of};
+use script_grammar::steps::{LIMIT, Read, first, refused};
+use script_grammar::stop::Stop;
 use std::alloc::Global;
 use tree_drops::{deleted, expr};
 
 /// The deletion of an operand with nothing after it: a member as written, and nothing else, is deleted.
-fn deletion<'a>(left: Operand, token: &Token, after: &[Token], tokens: &'a [Token]) -> Read<'a, Operand>
+fn deletion<'a>(
+    left: Operand,
+    token: &Token,
+    after: &[Token],
+    tokens: &'a [Token],
+) -> Read<'a, Operand>
     requires whole { tokens.now ≡ token.now ∷ after.now }
     ensures end { (b h : ℕ) → Follows (Deleted left h) b (grammar.deleted left h) tokens.now result }
     ensures small { IfOk result (λ r. r.1 ≡ 0) }
@@ -99,7 +104,13 @@ impl<
     }
 
     /// What stands after the operand of `delete`, up to the member that is deleted.
-    pub fn deleted<'a>(&self, left: Operand, height: u32, base: u32, tokens: &'a [Token]) -> Read<'a, Operand>
+    pub fn deleted<'a>(
+        &self,
+        left: Operand,
+        height: u32,
+        base: u32,
+        tokens: &'a [Token],
+    ) -> Read<'a, Operand>
         requires assigns { Assigns self.now.depth (F.pre self.now.assign) (F.post self.now.assign) }
         requires depth { self.now.depth ≤ base + 1 }
         requires base { base + height ≤ 200 }

@@ -3,11 +3,11 @@
 #![tactic(auto)]
 
 pub mod deeper;
-mod makers;
-pub mod lists;
-pub mod expressions;
-pub mod primary;
-pub mod operands;
-pub mod unary;
 pub mod delete;
+pub mod expressions;
+pub mod lists;
+mod makers;
+pub mod operands;
 pub mod operators;
+pub mod primary;
+pub mod unary;

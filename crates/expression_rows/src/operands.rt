@@ -6,14 +6,14 @@ ghost use Rattle.expression_rows.specs.Parts.{Part, TookKey, MissesKey, TookOper
 ghost use Rattle.script_grammar.specs.Rules.Symbol.{Left, New, Suffixes};
 ghost use Rattle.script_grammar.specs.declared.stop.Stop.TheVariants.{Memory};
 
-use script_grammar::classes::{Around, Operand, Tail};
-use script_grammar::classify::{is, is_word, key_of, tail_of};
 use crate::deeper::Grammar;
 use crate::makers::{plain, target};
-use script_grammar::steps::{LIMIT, Read, first, refused};
-use script_grammar::stop::Stop;
 use js_lexer::{Mark, Reserved, Token};
 use js_tree::{Script, Stmt};
+use script_grammar::classes::{Around, Operand, Tail};
+use script_grammar::classify::{is, is_word, key_of, tail_of};
+use script_grammar::steps::{LIMIT, Read, first, refused};
+use script_grammar::stop::Stop;
 use sqlite_items::Items;
 use std::alloc::Global;
 use tree_drops::expr;
@@ -37,7 +37,13 @@ impl<
     H: Fn(Global, Around, u32, &[Token]) -> Result<(Stmt, u32, &[Token]), Stop>,
 > Grammar<F, G, H> {
     /// A member by a key in brackets, after the first of them.
-    pub fn computed<'a>(&self, left: Operand, height: u32, base: u32, after: &'a [Token]) -> Read<'a, Operand>
+    pub fn computed<'a>(
+        &self,
+        left: Operand,
+        height: u32,
+        base: u32,
+        after: &'a [Token],
+    ) -> Read<'a, Operand>
         requires assigns { Assigns self.now.depth (F.pre self.now.assign) (F.post self.now.assign) }
         requires depth { self.now.depth ≤ base + 1 }
         requires base { base + height ≤ 200 }
@@ -63,7 +69,13 @@ impl<
     }
 
     /// A member by a key after a dot.
-    pub fn fixed<'a>(&self, left: Operand, height: u32, base: u32, after: &'a [Token]) -> Read<'a, Operand>
+    pub fn fixed<'a>(
+        &self,
+        left: Operand,
+        height: u32,
+        base: u32,
+        after: &'a [Token],
+    ) -> Read<'a, Operand>
         requires base { base + height ≤ 200 }
         ensures part { Part base (fixed_part left height) 0 after.now result }
         ensures grown { IfOk result (λ r. height < r.1) }
@@ -87,7 +99,14 @@ impl<
     }
 
     /// A call, after its parenthesis; what stands in it is so many levels above the operand's node.
-    pub fn call<'a>(&self, levels: u32, left: Operand, height: u32, base: u32, after: &'a [Token]) -> Read<'a, Operand>
+    pub fn call<'a>(
+        &self,
+        levels: u32,
+        left: Operand,
+        height: u32,
+        base: u32,
+        after: &'a [Token],
+    ) -> Read<'a, Operand>
         requires assigns { Assigns self.now.depth (F.pre self.now.assign) (F.post self.now.assign) }
         requires depth { self.now.depth ≤ base + 1 }
         requires base { base + height ≤ 200 }

@@ -7,14 +7,14 @@ ghost use Rattle.expression_rows.specs.Parts.{TookBranches, MissesBranches};
 ghost use Rattle.script_grammar.specs.Rules.Symbol.{Assign, Binary, Conditional, More};
 ghost use Rattle.script_grammar.specs.declared.stop.Stop.TheVariants.{Memory};
 
-use script_grammar::classes::{Around, Infix, Operand};
-use script_grammar::classify::{assign_of, infix_at, is};
 use crate::deeper::Grammar;
 use crate::makers::{joined, plain};
-use script_grammar::steps::{LIMIT, Read, expect, first};
-use script_grammar::stop::Stop;
 use js_lexer::{Mark, Token};
 use js_tree::{Script, Stmt};
+use script_grammar::classes::{Around, Infix, Operand};
+use script_grammar::classify::{assign_of, infix_at, is};
+use script_grammar::steps::{LIMIT, Read, expect, first};
+use script_grammar::stop::Stop;
 use std::alloc::Global;
 use tree_drops::expr;
 use tree_makers::exprs;
@@ -134,7 +134,13 @@ impl<
 
     /// Operands with the operators of this level and of the tighter ones between them.
     #[cycle(levels)]
-    pub fn binary<'a>(&self, no_in: bool, level: u8, base: u32, tokens: &'a [Token]) -> Read<'a, Operand>
+    pub fn binary<'a>(
+        &self,
+        no_in: bool,
+        level: u8,
+        base: u32,
+        tokens: &'a [Token],
+    ) -> Read<'a, Operand>
         requires assigns { Assigns self.now.depth (F.pre self.now.assign) (F.post self.now.assign) }
         requires bodies { Bodies self.now.depth (G.pre self.now.body) (G.post self.now.body) }
         requires depth { self.now.depth ≤ base + 1 }

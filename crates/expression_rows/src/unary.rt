@@ -8,14 +8,14 @@ ghost use Rattle.script_grammar.specs.Rules.Symbol.{Postfix, Unary};
 ghost use Rattle.script_grammar.specs.declared.classes.Prefix.TheVariants as prefix;
 ghost use Rattle.script_grammar.specs.declared.stop.Stop.TheVariants.{Memory};
 
-use script_grammar::classes::{Around, Operand, Prefix};
-use script_grammar::classify::{prefix_of, step_of};
 use crate::deeper::Grammar;
 use crate::makers::plain;
-use script_grammar::steps::{LIMIT, Read, first, refused};
-use script_grammar::stop::Stop;
 use js_lexer::Token;
 use js_tree::{Fix, Script, Sign, Stmt};
+use script_grammar::classes::{Around, Operand, Prefix};
+use script_grammar::classify::{prefix_of, step_of};
+use script_grammar::steps::{LIMIT, Read, first, refused};
+use script_grammar::stop::Stop;
 use std::alloc::Global;
 use tree_drops::expr;
 use tree_makers::exprs;
@@ -51,15 +51,27 @@ impl<
             Prefix::Delete => self.delete(base, rest),
             Prefix::Void => {
                 let (operand, height, rest) = self.beneath(base, rest)?;
-                Ok((plain(exprs::void(self.alloc, operand.expr)?), height + 1, rest))
+                Ok((
+                    plain(exprs::void(self.alloc, operand.expr)?),
+                    height + 1,
+                    rest,
+                ))
             }
             Prefix::Typeof => {
                 let (operand, height, rest) = self.beneath(base, rest)?;
-                Ok((plain(exprs::type_of(self.alloc, operand.expr)?), height + 1, rest))
+                Ok((
+                    plain(exprs::type_of(self.alloc, operand.expr)?),
+                    height + 1,
+                    rest,
+                ))
             }
             Prefix::Signed(operator) => {
                 let (operand, height, rest) = self.beneath(base, rest)?;
-                Ok((plain(exprs::unary(self.alloc, operator, operand.expr)?), height + 1, rest))
+                Ok((
+                    plain(exprs::unary(self.alloc, operator, operand.expr)?),
+                    height + 1,
+                    rest,
+                ))
             }
             Prefix::Update(step) => self.update(step, base, rest),
             Prefix::Neither => self.postfix(base, tokens),

@@ -17,4 +17,3 @@ returns-in_ok-next-in-Some-clause-end c _ = row (deleted_stepped c.args.token.no
 
 pub returns-in-None-clause-end : goal.returns-in-None-clause-end
 returns-in-None-clause-end c = onward c.deletion.result (λ o w. deleted_stepped c.args.token.now _ c.in-None.ensures w) (c.deletion.ensures.end _ _)
-

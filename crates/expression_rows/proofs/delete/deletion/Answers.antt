@@ -12,4 +12,3 @@ returns-in-Some-clause-end c b h = row (as_deleted _ c.if-not-left.false c.in-So
 
 pub returns-in-None-clause-end : goal.returns-in-None-clause-end
 returns-in-None-clause-end c b h _ = row (as_deleted _ c.if-not-left.false c.in-None.ensures (refuses c.requires.whole c.refused-in-None.ensures))
-

@@ -16,4 +16,3 @@ returns-in-Some c = let q = sym c.in-Some.is ∙ c.in_ok-units.ensures in
 
 pub returns-in-None : goal.returns-in-None
 returns-in-None c _ = record { row = λ n b h rule. peeks c.in_ok-token.ensures (by (λ x. fixed x rule) (sym c.in-None.is ∙ c.in_ok-units.ensures) (refuses c.in_ok-token.ensures c.refused.ensures)) }
-

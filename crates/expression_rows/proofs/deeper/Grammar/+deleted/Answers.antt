@@ -43,4 +43,3 @@ returns-in-Neither-clause-meets g t c = onward c.deleted_end.result (λ o w. pee
 
 pub returns-in-Err-clause-meets : goal.returns-in-Err-clause-meets
 returns-in-Err-clause-meets g t c _ = row (peeks_end c.in-Err.ensures.0 c.in-Err.ensures.1)
-

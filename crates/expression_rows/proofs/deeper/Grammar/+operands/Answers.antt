@@ -66,4 +66,3 @@ new-returns-in-Err-given-clause-meets g t c not = row (peeks c.in_ok-token.ensur
 pub new-returns-in-Err-clause-meets : goal.new-returns-in-Err-clause-meets
 new-returns-in-Err-clause-meets g t c _ = row (peeks c.in_ok-token.ensures (yes _ (sym c.is_word.ensures ∙ c.if-not-is_word.false) (rises (live_word w.New _ (sym c.is_word.ensures ∙ c.if-not-is_word.false)) c.in_ok-token.ensures (omega arith) (c.in_ok-callee.ensures.row.row _ _ 1 _ (λ callee. peek (new_after callee.expr)) _ refl
     (peeks_end c.in-Err.ensures.0 c.in-Err.ensures.1)))))
-

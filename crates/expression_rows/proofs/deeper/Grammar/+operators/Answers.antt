@@ -84,4 +84,3 @@ delete-returns-in_err-all-clause-after g t c u live = handed Unary c.args.base (
 
 pub delete-returns-clause-after : goal.delete-returns-clause-after
 delete-returns-clause-after g t c u live = row (rises live refl (omega arith) (peeks c.in_ok-token.ensures (no _ (sym c.prefixed.ensures ∙ c.if-prefixed.false) (no _ (sym c.is_word.ensures ∙ c.if-is_word.false) (passes c.in_ok-left.ensures.meets (passes_level c.in_ok-all.ensures.meets (gives refl (omega arith))))))))
-

@@ -46,4 +46,3 @@ returns-in-Neither-clause-meets g t c = row (peeks c.in-Ok.ensures (by (λ x. su
 
 pub returns-in-Err-clause-meets : goal.returns-in-Err-clause-meets
 returns-in-Err-clause-meets g t c _ = row (peeks_end c.in-Err.ensures.0 c.in-Err.ensures.1)
-

@@ -12,4 +12,3 @@ returns-in_ok-made-in-Ok-clause-part g c = record { row = λ t n h rule o live w
 
 pub returns-in-Err-clause-part : goal.returns-in-Err-clause-part
 returns-in-Err-clause-part g c not = record { row = λ t n h rule live. rises live refl (omega arith) ((c.in-Err.ensures.row not).row _ _ _) }
-

@@ -20,4 +20,3 @@ returns-in-None-clause-meets g c = row (passes_level c.in_ok-left.ensures.meets 
 
 pub returns-in-Err-clause-meets : goal.returns-in-Err-clause-meets
 returns-in-Err-clause-meets g c _ = row (passes_level c.in_ok-left.ensures.meets (peeks_end c.in-Err.ensures.0 c.in-Err.ensures.1))
-

@@ -21,4 +21,3 @@ returns-in_err-token-clause-after g c t live = handed Unary c.args.base (unary_b
 
 pub returns-clause-after : goal.returns-clause-after
 returns-clause-after g c t live _ = row (rises live refl (omega arith) (passes c.in_ok-operand.ensures.meets (no _ c.if-operand.false (refuses c.in_ok-token.ensures c.refused.ensures))))
-
