@@ -112,11 +112,11 @@ ends_named value (Err x) e q f = record { row = λ c b h. peeks e (no _ q (f.row
 
 -- ---- an expression in parentheses
 
-pub between : {b : ℕ} {ts rest : List Token} (r : Result (expr.Expr × ℕ × Bor (List Token)) Stop) → Took m.OpenParen ts rest
+pub between : (b : ℕ) {ts rest : List Token} (r : Result (expr.Expr × ℕ × Bor (List Token)) Stop) → Took m.OpenParen ts rest
     → MatchResult r (λ p. TookClosed m.CloseParen b rest p.0 p.1 p.2.now) (λ e. e ≢ Memory → MissesClosed m.CloseParen b rest e)
     → MatchResult r (λ p. TookParentheses b ts p.0 p.1 p.2.now) (λ e. e ≢ Memory → MissesParentheses b ts e)
-between (Ok p) open f = record { row = λ n h rule o w. expects open (f.row n h rule o w) }
-between (Err e) open f = λ not. record { row = λ n h rule. expects open ((f not).row n h rule) }
+between b (Ok p) took f = record { row = λ n h rule o w. expects took (f.row n h rule o w) }
+between b (Err e) took f = λ not. record { row = λ n h rule. expects took ((f not).row n h rule) }
 
 -- ---- a variable
 

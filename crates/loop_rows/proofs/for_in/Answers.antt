@@ -14,12 +14,12 @@ use Rattle.loop_rows.proofs.for_in.Goals as goal
 abbrev after : {c : Context} → ForTarget → expr.Expr → Rule (Statement c)
 after {c} target value = read 1 (Statement (loop c)) (λ body _. give (s.ForIn target value body))
 
-pub returns-in-Ok-Ok-clause-meets : goal.returns-in-Ok-Ok-clause-meets
-returns-in-Ok-Ok-clause-meets g c = row (c.in-Ok.ensures.takes.row (Statement c.args.around) 0 (after c.args.target) _
-    (passes (round_reads c.looped.ensures c.in-Ok-Ok.ensures.meets) (gives c.in_ok-made-in-Ok-Ok.ensures (omega arith))))
+pub returns-in-Ok-one-clause-meets : goal.returns-in-Ok-one-clause-meets
+returns-in-Ok-one-clause-meets g c = row (c.in-Ok.ensures.takes.row (Statement c.args.around) 0 (after c.args.target) _
+    (passes (round_reads c.looped.ensures c.in-Ok-one.ensures.meets) (gives c.in_ok-made-in-Ok-one.ensures (omega arith))))
 
-pub returns-in-Ok-Err-clause-meets : goal.returns-in-Ok-Err-clause-meets
-returns-in-Ok-Err-clause-meets g c not = row (c.in-Ok.ensures.takes.row (Statement c.args.around) 0 (after c.args.target) _ (fails (round_stops c.looped.ensures (c.in-Ok-Err.ensures.meets not))))
+pub returns-in-Err-one-clause-meets : goal.returns-in-Err-one-clause-meets
+returns-in-Err-one-clause-meets g c not = row (c.in-Ok.ensures.takes.row (Statement c.args.around) 0 (after c.args.target) _ (fails (round_stops c.looped.ensures (c.in-Err-one.ensures.meets not))))
 
 pub returns-in-Err-clause-meets : goal.returns-in-Err-clause-meets
 returns-in-Err-clause-meets g c not = row ((c.in-Err.ensures.takes not).row (Statement c.args.around) 0 (after c.args.target))

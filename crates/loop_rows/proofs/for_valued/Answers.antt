@@ -11,12 +11,12 @@ pub returns-then-sets-clause-meets : goal.returns-then-sets-clause-meets
 returns-then-sets-clause-meets g c = let q = sym c.sets.ensures ∙ c.if-sets.true in onwards c.for_in.result
     (λ o x. peeks c.in-Ok.ensures (yes _ q (eats (live_word w.In _ (left_true _ _ q)) c.in-Ok.ensures (by (λ y. for_in y) c.target_each.ensures x)))) c.for_in.ensures.meets
 
-pub returns-in-Ok-Ok-clause-meets : goal.returns-in-Ok-Ok-clause-meets
-returns-in-Ok-Ok-clause-meets g c = onwards c.for_test.result
-    (λ o x. peeks c.in-Ok.ensures (no _ (sym c.sets.ensures ∙ c.if-sets.false) (expects c.in-Ok-Ok.ensures (by (λ y. for_test y) c.value_start.ensures x)))) c.for_test.ensures.meets
+pub returns-in-Ok-expect-clause-meets : goal.returns-in-Ok-expect-clause-meets
+returns-in-Ok-expect-clause-meets g c = onwards c.for_test.result
+    (λ o x. peeks c.in-Ok.ensures (no _ (sym c.sets.ensures ∙ c.if-sets.false) (expects c.in-Ok-expect.ensures (by (λ y. for_test y) c.value_start.ensures x)))) c.for_test.ensures.meets
 
-pub returns-in-Ok-Err-clause-meets : goal.returns-in-Ok-Err-clause-meets
-returns-in-Ok-Err-clause-meets g c _ = row (peeks c.in-Ok.ensures (no _ (sym c.sets.ensures ∙ c.if-sets.false) (misses _ _ c.in-Ok-Err.ensures)))
+pub returns-in-Err-expect-clause-meets : goal.returns-in-Err-expect-clause-meets
+returns-in-Err-expect-clause-meets g c _ = row (peeks c.in-Ok.ensures (no _ (sym c.sets.ensures ∙ c.if-sets.false) (misses _ _ c.in-Err-expect.ensures)))
 
 pub returns-in-Err-clause-meets : goal.returns-in-Err-clause-meets
 returns-in-Err-clause-meets g c _ = row (peeks_end c.in-Err.ensures.0 c.in-Err.ensures.1)

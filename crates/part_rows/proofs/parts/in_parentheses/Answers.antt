@@ -10,4 +10,4 @@ returns-in_err-open-clause-takes g c = handed_on (λ r. TookParentheses c.args.b
     c.from_residual.result c.from_residual.ensures.1 (λ not. record { row = λ n h rule. misses _ _ c.in_err-open.ensures })
 
 pub returns-clause-takes : goal.returns-clause-takes
-returns-clause-takes g c = between c.enclosed.result c.in_ok-open.ensures c.enclosed.ensures.takes
+returns-clause-takes g c = between c.args.base c.enclosed.result c.in_ok-open.ensures c.enclosed.ensures.takes
