@@ -1,8 +1,7 @@
 -- More steps along rows: parts of rows that functions of their own read.
-use Rattle.std.proofs.Common.{◌≡◌, ◌≢◌, ℕ, ◌+◌, max, Bool, true, false, ◌&&◌, Option, List, [], ◌∷◌, Result, Ok, Err, MatchResult, length, ◌≤◌, refl, ap, sym, ◌∙◌, subst, arith}
+use Rattle.std.proofs.Common.{◌≡◌, ◌≢◌, ℕ, max, Bool, true, false, ◌&&◌, Option, List, [], ◌∷◌, Result, Ok, Err, MatchResult, length, ◌≤◌, refl, ap, sym, ◌∙◌, subst, arith}
 use Rattle.js_lexer.specs.declared.Token.{Token}
 use Rattle.js_lexer.specs.declared.Mark.TheVariants as m
-use Rattle.js_lexer.specs.declared.Mark.{Mark}
 use Rattle.js_lexer.specs.declared.Kind.{Kind}
 use Rattle.js_lexer.specs.declared.Kind.TheVariants as kind
 use Rattle.js_tree.specs.declared.Stmt.{Stmt}
@@ -23,7 +22,7 @@ use Rattle.script_grammar.proofs.Generic.{shorter}
 use Rattle.js_tree.specs.declared.Variable as variable
 use Rattle.script_grammar.specs.declared.classes.Operand.{Operand}
 use Rattle.script_grammar.specs.Stmts as s
-use Rattle.script_grammar.specs.Goes.{Goes, raise}
+use Rattle.script_grammar.specs.Goes.{Goes}
 use Rattle.script_grammar.specs.Goes.Goes.{ends_refuse, ends_node}
 use Rattle.script_grammar.specs.Meets.{Has, Took, TookName}
 use Rattle.script_grammar.specs.Meets.Has.{has}

@@ -1,5 +1,5 @@
 -- The turns of the loops over statements, declarations, names and clauses.
-use Rattle.std.proofs.Common.{◌≡◌, ℕ, ◌+◌, ◌<◌, ◌≤◌, max, Bool, true, false, Option, Some, None, List, [], ◌∷◌, ◌++◌, length, Ok, Err, refl, ap, sym, ◌∙◌, subst, arith}
+use Rattle.std.proofs.Common.{◌≡◌, ℕ, ◌<◌, max, Bool, true, false, List, [], ◌∷◌, ◌++◌, length, Ok, refl, ap, sym, subst, arith}
 use Rattle.js_lexer.specs.declared.Token.{Token}
 use Rattle.js_lexer.specs.declared.Mark.TheVariants as m
 use Rattle.js_lexer.specs.declared.Reserved.TheVariants as w
@@ -7,14 +7,13 @@ use Rattle.js_tree.specs.declared.Stmt.{Stmt}
 use Rattle.js_tree.specs.declared.Script as script
 use Rattle.js_tree.specs.declared.Declaration as declaration
 use Rattle.js_tree.specs.declared.Variable as variable
-use Rattle.script_grammar.specs.declared.stop.Stop.{Stop}
 use Rattle.script_grammar.specs.Words.{is, is_word, stops}
-use Rattle.script_grammar.specs.Rules.{Context, Symbol, Value, Rule, Done, Outcome}
+use Rattle.script_grammar.specs.Rules.{Context, Symbol, Value, Rule}
 use Rattle.script_grammar.specs.Rules.Symbol.{Elements, Declaration, Statements, Statement, Decls}
 use Rattle.script_grammar.specs.Grammar.{grammar, outer, go_on, as_read}
 use Rattle.script_grammar.specs.Rules.Rule.{give}
 use Rattle.script_grammar.specs.Goes.{Goes}
-use Rattle.script_grammar.specs.Meets.{Has, Continues}
+use Rattle.script_grammar.specs.Meets.{Continues}
 use Rattle.part_rows.specs.Lines.{TookVariable}
 use Rattle.script_grammar.proofs.Along.{row, gives, peeks, eats, passes_level, fails_level, yes, no}
 use Rattle.script_grammar.proofs.Tokens.{live_mark}

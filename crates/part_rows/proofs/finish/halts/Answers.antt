@@ -1,5 +1,5 @@
-use Rattle.std.proofs.Common.{sym, ◌∙◌, arith, refl}
-use Rattle.script_grammar.proofs.Along.{row, gives, refuses, peeks, peeks_end, eats, rises, sinks, passes, fails, yes, no, handed_on}
+use Rattle.std.proofs.Common.{sym, ◌∙◌, refl}
+use Rattle.script_grammar.proofs.Along.{gives, refuses, peeks, peeks_end, eats, yes, no, handed_on}
 use Rattle.script_grammar.proofs.Tokens.{live_mark}
 use Rattle.js_lexer.specs.declared.Mark.TheVariants as m
 use Rattle.part_rows.proofs.Joints.{left_true}

@@ -1,5 +1,5 @@
-use Rattle.std.proofs.Common.{sym, ◌∙◌, arith, refl}
-use Rattle.script_grammar.proofs.Along.{row, gives, refuses, peeks, peeks_end, eats, rises, sinks, passes, fails, yes, no, handed_on}
+use Rattle.std.proofs.Common.{sym, ◌∙◌}
+use Rattle.script_grammar.proofs.Along.{refuses, peeks, peeks_end, yes, handed_on}
 use Rattle.part_rows.proofs.Joints.{jumps}
 use Rattle.script_grammar.specs.Grammar.{jump}
 use Rattle.part_rows.specs.Lines.{Finished, Unfinished}

@@ -1,5 +1,5 @@
-use Rattle.std.proofs.Common.{sym, ◌∙◌, arith, refl}
-use Rattle.script_grammar.proofs.Along.{row, gives, refuses, peeks, peeks_end, eats, rises, sinks, passes, fails, yes, no, handed_on}
+use Rattle.std.proofs.Common.{arith}
+use Rattle.script_grammar.proofs.Along.{rises, sinks, handed_on}
 use Rattle.part_rows.proofs.Joints.{node_end}
 use Rattle.part_rows.specs.Lines.{Stood, NotStood}
 use Rattle.part_rows.proofs.finish.stand.Goals as goal

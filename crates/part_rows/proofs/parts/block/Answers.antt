@@ -1,5 +1,5 @@
-use Rattle.std.proofs.Common.{sym, ◌∙◌, arith, refl}
-use Rattle.script_grammar.proofs.Along.{row, gives, refuses, peeks, peeks_end, eats, rises, sinks, passes, fails, passes_level, fails_level, yes, no, as_high, expects, misses, handed, handed_by, handed_on}
+use Rattle.std.proofs.Common.{sym, ◌∙◌, arith}
+use Rattle.script_grammar.proofs.Along.{row, gives, refuses, peeks, peeks_end, rises, sinks, passes, fails, yes, no, expects, misses, handed}
 use Rattle.script_grammar.proofs.Tokens.{live_mark}
 use Rattle.js_lexer.specs.declared.Mark.TheVariants as m
 use Rattle.script_grammar.specs.Rules.Symbol.{Block}

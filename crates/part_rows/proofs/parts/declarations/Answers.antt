@@ -1,5 +1,4 @@
-use Rattle.std.proofs.Common.{sym, ◌∙◌, arith, rules}
-use Rattle.script_grammar.specs.Rules.Symbol.{Decls}
+use Rattle.std.proofs.Common.{sym, ◌∙◌, rules}
 use Rattle.script_grammar.proofs.Along.{row, peeks_end}
 use Rattle.part_rows.proofs.Turns.{next_variable, again_variables, last_variables, smaller_variables}
 use Rattle.part_rows.proofs.parts.declarations.Goals as goal

@@ -1,4 +1,4 @@
-use Rattle.std.proofs.Common.{sym, ◌∙◌, arith, refl, rules}
+use Rattle.std.proofs.Common.{sym, ◌∙◌, refl, rules}
 use Rattle.script_grammar.proofs.Along.{row, gives, peeks, peeks_end, fails_level, yes, no}
 use Rattle.part_rows.proofs.Turns.{again_statements, at_last}
 use Rattle.part_rows.proofs.Hungry.{statement_shorter}
