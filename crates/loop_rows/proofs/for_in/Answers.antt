@@ -14,8 +14,8 @@ use Rattle.loop_rows.proofs.for_in.Goals as goal
 abbrev after : {c : Context} → ForTarget → expr.Expr → Rule (Statement c)
 after {c} target value = read 1 (Statement (loop c)) (λ body _. give (s.ForIn target value body))
 
-pub returns-in-Ok-one-clause-meets : goal.returns-in-Ok-one-clause-meets
-returns-in-Ok-one-clause-meets g c = row (c.in-Ok.ensures.takes.row (Statement c.args.around) 0 (after c.args.target) _
+pub returns-in_ok-made-in-Ok-one-clause-meets : goal.returns-in_ok-made-in-Ok-one-clause-meets
+returns-in_ok-made-in-Ok-one-clause-meets g c = row (c.in-Ok.ensures.takes.row (Statement c.args.around) 0 (after c.args.target) _
     (passes (round_reads c.looped.ensures c.in-Ok-one.ensures.meets) (gives c.in_ok-made-in-Ok-one.ensures (omega arith))))
 
 pub returns-in-Err-one-clause-meets : goal.returns-in-Err-one-clause-meets
