@@ -1,5 +1,4 @@
 use Rattle.std.proofs.Common.{arith}
-use Rattle.script_grammar.specs.Rules.Symbol.{Statement}
 use Rattle.script_grammar.proofs.Along.{row, gives, passes, fails}
 use Rattle.part_rows.proofs.Joints.{round_reads, round_stops}
 use Rattle.loop_rows.proofs.for_body.Goals as goal

@@ -8,7 +8,7 @@ use Rattle.part_rows.specs.Lines.{for_more_rule, for_declared_rule}
 use Rattle.loop_rows.proofs.for_more.Goals as goal
 
 pub returns-then-is-clause-meets : goal.returns-then-is-clause-meets
-returns-then-is-clause-meets g c = let q = sym c.is.ensures ∙ c.if-is.true in onwards {n = Statement c.args.around} {b = c.args.base} {r = for_decls c.args.all} {s = for_more_rule c.args.all} {us = c.args.tokens.now} c.for_declarations.result (λ o x. peeks c.in-Ok.ensures (yes _ q (eats (live_mark m.Comma _ q) c.in-Ok.ensures x))) c.for_declarations.ensures.meets
+returns-then-is-clause-meets g c = onwards {n = Statement c.args.around} {b = c.args.base} {r = for_decls c.args.all} {s = for_more_rule c.args.all} {us = c.args.tokens.now} c.for_declarations.result (λ o x. peeks c.in-Ok.ensures (yes _ (sym c.is.ensures ∙ c.if-is.true) (eats (live_mark m.Comma _ (sym c.is.ensures ∙ c.if-is.true)) c.in-Ok.ensures x))) c.for_declarations.ensures.meets
 
 pub returns-else-is-clause-meets : goal.returns-else-is-clause-meets
 returns-else-is-clause-meets g c = onwards {n = Statement c.args.around} {b = c.args.base} {r = for_declared_rule c.args.all} {s = for_more_rule c.args.all} {us = c.args.tokens.now} c.for_declared.result (λ o x. peeks c.in-Ok.ensures (no _ (sym c.is.ensures ∙ c.if-is.false) x)) c.for_declared.ensures.meets
