@@ -1,5 +1,5 @@
 -- Rows that take a token where they read at all.
-use Rattle.std.proofs.Common.{◌≡◌, ℕ, zero, suc, ◌+◌, ◌<◌, ◌≤◌, Bool, true, false, Option, List, length, ◌∷◌, Ok, Err, refl, ap, sym, ◌∙◌, subst, arith}
+use Rattle.std.proofs.Common.{◌≡◌, ℕ, zero, suc, ◌<◌, ◌≤◌, Bool, true, false, Option, List, length, Ok, Err, refl, ap, subst, arith}
 use Rattle.js_lexer.specs.declared.Token.{Token}
 use Rattle.script_grammar.specs.declared.Form.{Form}
 use Rattle.script_grammar.specs.declared.stop.Stop.{Stop}

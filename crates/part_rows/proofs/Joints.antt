@@ -1,14 +1,13 @@
 -- More steps along rows: parts of rows that functions of their own read.
-use Rattle.std.proofs.Common.{◌≡◌, ℕ, ◌+◌, max, Bool, true, false, ◌&&◌, Option, List, [], ◌∷◌, Result, Ok, Err, MatchResult, length, ◌≤◌, refl, ap, sym, ◌∙◌, subst, arith}
+use Rattle.std.proofs.Common.{◌≡◌, ◌≢◌, ℕ, max, Bool, true, false, ◌&&◌, Option, List, [], ◌∷◌, Result, Ok, Err, MatchResult, length, ◌≤◌, refl, ap, sym, ◌∙◌, subst, arith}
 use Rattle.js_lexer.specs.declared.Token.{Token}
 use Rattle.js_lexer.specs.declared.Mark.TheVariants as m
-use Rattle.js_lexer.specs.declared.Mark.{Mark}
 use Rattle.js_lexer.specs.declared.Kind.{Kind}
 use Rattle.js_lexer.specs.declared.Kind.TheVariants as kind
 use Rattle.js_tree.specs.declared.Stmt.{Stmt}
 use Rattle.script_grammar.specs.declared.Form.{Form}
 use Rattle.script_grammar.specs.declared.stop.Stop.{Stop}
-use Rattle.script_grammar.specs.declared.stop.Stop.TheVariants.{Ends}
+use Rattle.script_grammar.specs.declared.stop.Stop.TheVariants.{Ends, Memory}
 use Rattle.script_grammar.specs.declared.classes.Start.{Start}
 use Rattle.script_grammar.specs.declared.classes.Start.TheVariants as start
 use Rattle.script_grammar.specs.Words.{Units, is, is_end, kind_ends, start_of, labels}
@@ -18,16 +17,16 @@ use Rattle.script_grammar.specs.Rules.Rule.{give, refuse, node}
 use Rattle.script_grammar.specs.Grammar.{grammar, ends, halts, jump, ends_identifier, is_name}
 use Rattle.js_tree.specs.declared.Expr as expr
 use Rattle.std.specs.Borrow.{Bor}
-use Rattle.script_grammar.proofs.Along.{row, gives, peeks, no}
+use Rattle.script_grammar.proofs.Along.{row, gives, peeks, no, expects}
 use Rattle.script_grammar.proofs.Generic.{shorter}
 use Rattle.js_tree.specs.declared.Variable as variable
 use Rattle.script_grammar.specs.declared.classes.Operand.{Operand}
 use Rattle.script_grammar.specs.Stmts as s
-use Rattle.script_grammar.specs.Goes.{Goes, raise}
+use Rattle.script_grammar.specs.Goes.{Goes}
 use Rattle.script_grammar.specs.Goes.Goes.{ends_refuse, ends_node}
-use Rattle.script_grammar.specs.Meets.{Has, TookName}
+use Rattle.script_grammar.specs.Meets.{Has, Took, TookName}
 use Rattle.script_grammar.specs.Meets.Has.{has}
-use Rattle.part_rows.specs.Lines.{Begun, Finished, Unfinished, FinishedName, UnfinishedName}
+use Rattle.part_rows.specs.Lines.{Begun, Finished, Unfinished, FinishedName, UnfinishedName, TookClosed, MissesClosed, TookParentheses, MissesParentheses}
 
 module _ {n : Symbol} {b : ℕ} where
   pub node_end : {k : ℕ} {r : Rule n} {ts : List Token} {h : ℕ} {e : Stop} → ts ≡ [] → e ≡ Ends → Has n b (node k r) ts h (Err e)
@@ -39,6 +38,14 @@ module _ {n : Symbol} {b : ℕ} where
   -- the rest of the row as another function read it
   pub onward : {r : Rule n} {ts rest : List Token} {v : Value n} {h i k : ℕ} → k ≡ max h i → Goes 200 n b r ts (Ok record { value = v; height = i; rest = rest }) → Has n b r ts h (Ok record { value = v; height = k; rest = rest })
   onward {rest = rest} {v = v} e g = has g (ap (λ x. Ok record { value = v; height = x; rest = rest }) e)
+
+-- what stands round a statement, said in another way
+pub round_reads : {c d : Context} {b : ℕ} {ts rest : List Token} {v : Stmt} {h : ℕ} → d ≡ c
+    → Goes 200 (Statement d) b (grammar (Statement d)) ts (Ok record { value = v; height = h; rest = rest }) → Goes 200 (Statement c) b (grammar (Statement c)) ts (Ok record { value = v; height = h; rest = rest })
+round_reads {b = b} {ts = ts} {rest = rest} {v = v} {h = h} e g = subst (λ x. Goes 200 (Statement x) b (grammar (Statement x)) ts (Ok record { value = v; height = h; rest = rest })) e g
+
+pub round_stops : {c d : Context} {b : ℕ} {ts : List Token} {e : Stop} → d ≡ c → Goes 200 (Statement d) b (grammar (Statement d)) ts (Err e) → Goes 200 (Statement c) b (grammar (Statement c)) ts (Err e)
+round_stops {b = b} {ts = ts} {e = e} q g = subst (λ x. Goes 200 (Statement x) b (grammar (Statement x)) ts (Err e)) q g
 
 -- the end of a statement
 ended_by : {c : Context} {b : ℕ} (part : (c : Context) → Stmt → Rule (Statement c)) {ts rest : List Token} {v w : Stmt} {h k : ℕ} → w ≡ v → k ≡ h → Finished part ts rest
@@ -101,6 +108,14 @@ pub ends_named : {ts rest : List Token} {t : Token} (value : expr.Expr) (r : Res
     → MatchResult r (λ after. FinishedName value ts after.now) (λ e. UnfinishedName value ts e)
 ends_named value (Ok after) e q f = record { row = λ c b h. peeks e (no _ q (f.row c b h (s.Expression value))) }
 ends_named value (Err x) e q f = record { row = λ c b h. peeks e (no _ q (f.row c b h (s.Expression value))) }
+
+-- ---- an expression in parentheses
+
+pub between : (b : ℕ) {ts rest : List Token} (r : Result (expr.Expr × ℕ × Bor (List Token)) Stop) → Took m.OpenParen ts rest
+    → MatchResult r (λ p. TookClosed m.CloseParen b rest p.0 p.1 p.2.now) (λ e. e ≢ Memory → MissesClosed m.CloseParen b rest e)
+    → MatchResult r (λ p. TookParentheses b ts p.0 p.1 p.2.now) (λ e. e ≢ Memory → MissesParentheses b ts e)
+between b (Ok p) took f = record { row = λ n h rule o w. expects took (f.row n h rule o w) }
+between b (Err e) took f = λ not. record { row = λ n h rule. expects took ((f not).row n h rule) }
 
 -- ---- a variable
 

@@ -1,5 +1,5 @@
 -- The turns of the loops over statements, declarations, names and clauses.
-use Rattle.std.proofs.Common.{◌≡◌, ℕ, ◌+◌, ◌<◌, ◌≤◌, max, Bool, true, false, Option, Some, None, List, [], ◌∷◌, ◌++◌, length, Ok, Err, refl, ap, sym, ◌∙◌, subst, arith}
+use Rattle.std.proofs.Common.{◌≡◌, ℕ, ◌<◌, max, Bool, true, false, List, [], ◌∷◌, ◌++◌, length, Ok, refl, ap, sym, subst, arith}
 use Rattle.js_lexer.specs.declared.Token.{Token}
 use Rattle.js_lexer.specs.declared.Mark.TheVariants as m
 use Rattle.js_lexer.specs.declared.Reserved.TheVariants as w
@@ -7,13 +7,13 @@ use Rattle.js_tree.specs.declared.Stmt.{Stmt}
 use Rattle.js_tree.specs.declared.Script as script
 use Rattle.js_tree.specs.declared.Declaration as declaration
 use Rattle.js_tree.specs.declared.Variable as variable
-use Rattle.script_grammar.specs.declared.stop.Stop.{Stop}
 use Rattle.script_grammar.specs.Words.{is, is_word, stops}
-use Rattle.script_grammar.specs.Rules.{Context, Symbol, Value, Rule, Done, Outcome}
+use Rattle.script_grammar.specs.Rules.{Context, Symbol, Value, Rule}
 use Rattle.script_grammar.specs.Rules.Symbol.{Elements, Declaration, Statements, Statement, Decls}
-use Rattle.script_grammar.specs.Grammar.{grammar, outer}
+use Rattle.script_grammar.specs.Grammar.{grammar, outer, go_on, as_read}
+use Rattle.script_grammar.specs.Rules.Rule.{give}
 use Rattle.script_grammar.specs.Goes.{Goes}
-use Rattle.script_grammar.specs.Meets.{Has, Continues}
+use Rattle.script_grammar.specs.Meets.{Continues}
 use Rattle.part_rows.specs.Lines.{TookVariable}
 use Rattle.script_grammar.proofs.Along.{row, gives, peeks, eats, passes_level, fails_level, yes, no}
 use Rattle.script_grammar.proofs.Tokens.{live_mark}
@@ -52,16 +52,20 @@ module _ {f : Bool} {b height : ℕ} {functions : List declaration.Declaration} 
     stops = λ e g. row (peeks next (no _ going (no _ q (passes_level read (fails_level g)))));
   }
 
+-- what stands after a variable
+abbrev pub next_variable : (no_in : Bool) (so_far : List variable.Variable) → variable.Variable → Rule (Decls no_in so_far)
+next_variable no_in so_far one = go_on (as_read (Decls no_in (so_far ++ one ∷ [])) (λ v. v)) (give (so_far ++ one ∷ []))
+
 module _ {no_in : Bool} {b height : ℕ} {so_far : List variable.Variable} {one : variable.Variable} {ts rest after : List Token} {t : Token}
     (took : TookVariable no_in b ts one height rest) (next : rest ≡ t ∷ after) where
   pub turn_variable : is m.Comma t ≡ true → Continues (List variable.Variable) b (Decls no_in (so_far ++ one ∷ [])) (Decls no_in so_far) (λ v. v) (λ v. v) height after ts
   turn_variable q = record {
-    reads = λ v h left g. row (took.row _ 0 _ _ (peeks next (yes _ q (eats (live_mark m.Comma t q) next (passes_level g (gives refl (omega arith)))))));
-    stops = λ e g. row (took.row _ 0 _ _ (peeks next (yes _ q (eats (live_mark m.Comma t q) next (fails_level g)))));
+    reads = λ v h left g. row (took.row _ 0 (next_variable no_in so_far) _ (peeks next (yes _ q (eats (live_mark m.Comma t q) next (passes_level g (gives refl (omega arith)))))));
+    stops = λ e g. row (took.row _ 0 (next_variable no_in so_far) _ (peeks next (yes _ q (eats (live_mark m.Comma t q) next (fails_level g)))));
   }
 
   pub last_variable : is m.Comma t ≡ false → Goes 200 (Decls no_in so_far) b (grammar (Decls no_in so_far)) ts (Ok record { value = so_far ++ one ∷ []; height = height; rest = rest })
-  last_variable q = row (took.row _ 0 _ _ (peeks next (no _ q (gives refl (omega arith)))))
+  last_variable q = row (took.row _ 0 (next_variable no_in so_far) _ (peeks next (no _ q (gives refl (omega arith)))))
 
 -- a list read to its end
 pub at_last : {A : Type 0} {b : ℕ} {n m : Symbol} {of_n : A → Value n} {of_m : A → Value m} {tall k : ℕ} {v : A} {ts rest all : List Token} → Continues A b n m of_n of_m tall ts all

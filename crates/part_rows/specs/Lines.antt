@@ -1,5 +1,5 @@
 -- What the functions for statements and their parts answer.
-use Rattle.std.specs.Prelude.{◌≡◌, ◌≢◌, ℕ, max, ◌+◌, Bool, true, false, List, [], ◌∷◌, ◌++◌, Result, Ok, Err, Option, Some, None, ◌&&◌, ◌≤◌, IfOk, length}
+use Rattle.std.specs.Prelude.{◌≡◌, ℕ, max, ◌+◌, Bool, true, false, List, [], ◌∷◌, ◌++◌, Result, Ok, Err, Option, Some, None, ◌&&◌, ◌≤◌, IfOk, length}
 use Rattle.std.specs.Borrow.{Bor}
 use Rattle.js_lexer.specs.declared.Token.{Token}
 use Rattle.js_lexer.specs.declared.Mark.{Mark}
@@ -9,9 +9,8 @@ use Rattle.js_tree.specs.declared.Case as clause
 use Rattle.js_tree.specs.declared.Stmt.{Stmt}
 use Rattle.js_tree.specs.declared.Variable as declared
 use Rattle.script_grammar.specs.declared.stop.Stop.{Stop}
-use Rattle.script_grammar.specs.declared.stop.Stop.TheVariants.{Memory}
 use Rattle.script_grammar.specs.Words.{Units, is_end, is, is_word}
-use Rattle.script_grammar.specs.Rules.{Context, Symbol, Value, Rule, Outcome}
+use Rattle.script_grammar.specs.Rules.{Context, Symbol, Rule, Outcome}
 use Rattle.script_grammar.specs.Rules.Symbol.{Statement, Statements, Clauses, Assign, Expr}
 use Rattle.script_grammar.specs.Rules.Rule.{peek, eat, node, read}
 use Rattle.script_grammar.specs.Grammar.{grammar, either, expect, a_name, block, target, decl_of, in_parentheses, for_in, for_test, for_decls, after_try, ends_identifier}

@@ -1,16 +1,25 @@
-use Rattle.std.proofs.Common.{sym, ◌∙◌, arith, refl}
-use Rattle.script_grammar.proofs.Along.{row, whole, gives, refuses, peeks, peeks_end, eats, passes, fails, yes, no, expects, misses, expects_word, misses_word, handed, begins_with, begins_too_deep}
-use Rattle.part_rows.proofs.Joints.{refuses_end, onward, ended, halted, jumped, ended_name}
+use Rattle.std.proofs.Common.{arith}
+use Rattle.js_tree.specs.declared.Expr as expr
+use Rattle.js_tree.specs.declared.ForTarget.{ForTarget}
+use Rattle.script_grammar.specs.Stmts as s
+use Rattle.script_grammar.specs.Rules.{Context, Rule}
+use Rattle.script_grammar.specs.Rules.Rule.{give, read}
+use Rattle.script_grammar.specs.Rules.Symbol.{Statement}
+use Rattle.script_grammar.specs.Grammar.{loop}
+use Rattle.script_grammar.proofs.Along.{row, gives, passes, fails}
+use Rattle.part_rows.proofs.Joints.{round_reads, round_stops}
 use Rattle.loop_rows.proofs.for_in.Goals as goal
 
-pub returns-in_err-value-clause-meets : goal.returns-in_err-value-clause-meets
-returns-in_err-value-clause-meets g c = handed _ _ _ _ c.from_residual.result c.from_residual.ensures.1 (λ not. fails (c.in_err-value.ensures.meets not))
+-- what stands after the parenthesis
+abbrev after : {c : Context} → ForTarget → expr.Expr → Rule (Statement c)
+after {c} target value = read 1 (Statement (loop c)) (λ body _. give (s.ForIn target value body))
 
-pub returns-in_err-next-clause-meets : goal.returns-in_err-next-clause-meets
-returns-in_err-next-clause-meets g c = handed _ _ _ _ c.from_residual-in_err-next.result c.from_residual-in_err-next.ensures.1 (λ not. passes c.in_ok-value.ensures.meets (misses _ _ c.in_err-next.ensures))
+pub returns-in-Ok-one-clause-meets : goal.returns-in-Ok-one-clause-meets
+returns-in-Ok-one-clause-meets g c = row (c.in-Ok.ensures.takes.row (Statement c.args.around) 0 (after c.args.target) _
+    (passes (round_reads c.looped.ensures c.in-Ok-one.ensures.meets) (gives c.in_ok-made-in-Ok-one.ensures (omega arith))))
 
-pub returns-in_err-body-clause-meets : goal.returns-in_err-body-clause-meets
-returns-in_err-body-clause-meets g c = handed _ _ _ _ c.from_residual-in_err-body.result c.from_residual-in_err-body.ensures.1 (λ not. passes c.in_ok-value.ensures.meets (expects c.in_ok-next.ensures (fails (c.in_err-body.ensures.meets not))))
+pub returns-in-Err-one-clause-meets : goal.returns-in-Err-one-clause-meets
+returns-in-Err-one-clause-meets g c not = row (c.in-Ok.ensures.takes.row (Statement c.args.around) 0 (after c.args.target) _ (fails (round_stops c.looped.ensures (c.in-Err-one.ensures.meets not))))
 
-pub returns-clause-meets : goal.returns-clause-meets
-returns-clause-meets g c = row (passes c.in_ok-value.ensures.meets (expects c.in_ok-next.ensures (passes c.in_ok-body.ensures.meets (gives c.in_ok-made.ensures (omega arith)))))
+pub returns-in-Err-clause-meets : goal.returns-in-Err-clause-meets
+returns-in-Err-clause-meets g c not = row ((c.in-Err.ensures.takes not).row (Statement c.args.around) 0 (after c.args.target))

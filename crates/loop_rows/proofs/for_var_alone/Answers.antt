@@ -1,13 +1,20 @@
-use Rattle.std.proofs.Common.{sym, ◌∙◌, arith, refl}
-use Rattle.script_grammar.proofs.Along.{row, whole, gives, refuses, peeks, peeks_end, eats, passes, fails, yes, no, expects, misses, expects_word, misses_word, handed, begins_with, begins_too_deep}
-use Rattle.part_rows.proofs.Joints.{refuses_end, onward, ended, halted, jumped, ended_name}
+use Rattle.std.proofs.Common.{[], ◌∷◌, ap, ◌∙◌, arith}
+use Rattle.script_grammar.specs.Rules.Rule.{node}
+use Rattle.script_grammar.specs.Starts as from
+use Rattle.script_grammar.specs.Rules.Symbol.{Statement}
+use Rattle.script_grammar.specs.Grammar.{for_test}
+use Rattle.script_grammar.proofs.Along.{row, whole, by, handed}
+use Rattle.part_rows.specs.Lines.{for_alone_rule}
+use Rattle.part_rows.proofs.Joints.{onward}
 use Rattle.loop_rows.proofs.for_var_alone.Goals as goal
 
 pub returns-in_err-stood-clause-meets : goal.returns-in_err-stood-clause-meets
-returns-in_err-stood-clause-meets g c = handed _ _ _ _ c.from_residual.result c.from_residual.ensures.1 (λ not. c.in_err-stood.ensures.stands.row _ _ _)
+returns-in_err-stood-clause-meets g c = handed (Statement c.args.around) c.args.base (node 2 (for_alone_rule c.args.units)) c.args.tokens.now c.from_residual.result c.from_residual.ensures.1
+    (λ not. c.in_err-stood.ensures.stands.row (Statement c.args.around) 0 (for_alone_rule c.args.units))
 
 pub returns-in_err-made-clause-meets : goal.returns-in_err-made-clause-meets
-returns-in_err-made-clause-meets g c = handed _ _ _ _ c.from_residual-in_err-made.result c.from_residual-in_err-made.ensures.1 (λ not. c.in_ok-stood.ensures.stands.row _ _ _ _ (whole (c.in_err-made.ensures.meets not)))
+returns-in_err-made-clause-meets g c = handed (Statement c.args.around) c.args.base (node 2 (for_alone_rule c.args.units)) c.args.tokens.now c.from_residual-in_err-made.result c.from_residual-in_err-made.ensures.1
+    (λ not. c.in_ok-stood.ensures.stands.row (Statement c.args.around) 0 (for_alone_rule c.args.units) _ (by (λ y. for_test y) (c.in_ok-from.ensures ∙ ap (λ x. from.Var x) (c.in_ok-all.ensures ∙ ap (λ x. x ∷ []) c.variable.ensures)) (whole (c.in_err-made.ensures.meets not))))
 
 pub returns-clause-meets : goal.returns-clause-meets
-returns-clause-meets g c = row (c.in_ok-stood.ensures.stands.row _ _ _ _ (onward (omega arith) c.in_ok-made.ensures.meets))
+returns-clause-meets g c = row (c.in_ok-stood.ensures.stands.row (Statement c.args.around) 0 (for_alone_rule c.args.units) _ (by (λ y. for_test y) (c.in_ok-from.ensures ∙ ap (λ x. from.Var x) (c.in_ok-all.ensures ∙ ap (λ x. x ∷ []) c.variable.ensures)) (onward (omega arith) c.in_ok-made.ensures.meets)))

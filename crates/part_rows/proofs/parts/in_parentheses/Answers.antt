@@ -1,15 +1,13 @@
-use Rattle.std.proofs.Common.{sym, ◌∙◌, arith, refl}
-use Rattle.script_grammar.proofs.Along.{row, gives, refuses, peeks, peeks_end, eats, rises, sinks, passes, fails, passes_level, fails_level, yes, no, as_high, expects, misses, handed, handed_by, handed_on}
+use Rattle.std.proofs.Common.{◌≢◌}
+use Rattle.script_grammar.specs.declared.stop.Stop.TheVariants.{Memory}
+use Rattle.script_grammar.proofs.Along.{misses, handed_on}
+use Rattle.part_rows.specs.Lines.{TookParentheses, MissesParentheses}
+use Rattle.part_rows.proofs.Joints.{between}
 use Rattle.part_rows.proofs.parts.in_parentheses.Goals as goal
 
 pub returns-in_err-open-clause-takes : goal.returns-in_err-open-clause-takes
-returns-in_err-open-clause-takes g c = handed_on _ _ c.from_residual.result c.from_residual.ensures.1 (λ not. record { row = λ n h rule. misses _ _ c.in_err-open.ensures })
-
-pub returns-in_err-value-clause-takes : goal.returns-in_err-value-clause-takes
-returns-in_err-value-clause-takes g c = handed_on _ _ c.from_residual-in_err-value.result c.from_residual-in_err-value.ensures.1 (λ not. record { row = λ n h rule. expects c.in_ok-open.ensures (fails (c.in_err-value.ensures.meets not)) })
-
-pub returns-in_err-closed-clause-takes : goal.returns-in_err-closed-clause-takes
-returns-in_err-closed-clause-takes g c = handed_on _ _ c.from_residual-in_err-closed.result c.from_residual-in_err-closed.ensures.1 (λ not. record { row = λ n h rule. expects c.in_ok-open.ensures (passes c.in_ok-value.ensures.meets (misses _ _ c.in_err-closed.ensures)) })
+returns-in_err-open-clause-takes g c = handed_on (λ r. TookParentheses c.args.base c.args.tokens.now r.0 r.1 r.2.now) (λ e. e ≢ Memory → MissesParentheses c.args.base c.args.tokens.now e)
+    c.from_residual.result c.from_residual.ensures.1 (λ not. record { row = λ n h rule. misses _ _ c.in_err-open.ensures })
 
 pub returns-clause-takes : goal.returns-clause-takes
-returns-clause-takes g c = record { row = λ n h rule o w. expects c.in_ok-open.ensures (passes c.in_ok-value.ensures.meets (expects c.in_ok-closed.ensures (as_high (omega arith) w))) }
+returns-clause-takes g c = between c.args.base c.enclosed.result c.in_ok-open.ensures c.enclosed.ensures.takes
