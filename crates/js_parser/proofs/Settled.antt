@@ -99,5 +99,5 @@ refuses {form = form} {place = place} g w = ap told (same_stop (faulty w g)) ∙
 
 -- ---- nesting
 
-pub too_deep : {ts front rest : List Token} → Shallow 200 ts → ts ≡ front ++ rest → Deep 200 front → ⊥
-too_deep {front = front} {rest = rest} s e deep = s front rest e deep
+pub too_deep : {ts : List Token} (front rest : List Token) → Shallow 200 ts → ts ≡ front ++ rest → Deep 200 front → ⊥
+too_deep front rest s e deep = s front rest e deep

@@ -1,5 +1,5 @@
 -- What the answers of the parser say of the tokens.
-use Rattle.std.specs.Prelude.{◌≡◌, ◌⊎◌, ℕ, true, false, List, [], ◌∷◌, ◌++◌, Option, Some, None}
+use Rattle.std.specs.Prelude.{◌≡◌, ◌⊎◌, ℕ, true, false, List, [], ◌∷◌, ◌++◌, Err, Option, Some, None}
 use Rattle.js_lexer.specs.declared.Token.{Token}
 use Rattle.js_parser.specs.declared.ParseStop.{ParseStop}
 use Rattle.js_parser.specs.declared.ParseStop.TheVariants as stop
@@ -7,7 +7,9 @@ use Rattle.script_grammar.specs.Claims.{FirstWrong, Shallow}
 use Rattle.script_grammar.specs.declared.Form.{Form}
 use Rattle.script_grammar.specs.declared.stop.Stop.{Stop}
 use Rattle.script_grammar.specs.declared.stop.Stop.TheVariants.{Ends}
-use Rattle.script_grammar.specs.Goes.{Deep}
+use Rattle.script_grammar.specs.Goes.{Deep, Goes}
+use Rattle.script_grammar.specs.Grammar.{grammar}
+use Rattle.script_grammar.specs.Rules.Symbol.{Script}
 use Rattle.script_grammar.specs.Words.{is_end, fault, form_at}
 
 -- Why the tokens are no script: a first token with which they begin none, while no node before it is too deep; or a front of them that begins a script only with a node that is too deep.
@@ -30,3 +32,7 @@ AtEnd ts = (t : Token) × (rest : List Token) × (ts ≡ t ∷ rest) × (is_end 
 abbrev pub NotAtEnd : List Token → Stop → Type 0
 NotAtEnd ts e = ((ts ≡ []) × (e ≡ Ends))
     ⊎ ((t : Token) × (rest : List Token) × (ts ≡ t ∷ rest) × (is_end t ≡ false) × (e ≡ fault (form_at None t) t.start))
+
+-- The row of a script stops so.
+abbrev pub Stopped : List Token → Stop → Type 0
+Stopped ts e = Goes 200 Script 0 (grammar Script) ts (Err e)

@@ -4,14 +4,12 @@ ghost use Rattle.std.specs.Prelude.{◌≡◌, ◌≢◌, ◌≤◌, ◌++◌, �
 ghost use Rattle.js_lexer.specs.declared.Token.{Token};
 ghost use Rattle.js_lexer.specs.Tokens.{EndsOnce};
 ghost use Rattle.js_tree.specs.declared.Script as script;
-ghost use Rattle.js_parser.specs.Parses.{AtEnd, NotAtEnd, Refused, refusal};
+ghost use Rattle.js_parser.specs.Parses.{AtEnd, NotAtEnd, Refused, Stopped, refusal};
 ghost use Rattle.js_parser.specs.declared.ParseStop.TheVariants as why;
 ghost use Rattle.script_grammar.specs.Claims.{FirstWrong, Shallow};
 ghost use Rattle.script_grammar.specs.declared.Form.{Form};
 ghost use Rattle.script_grammar.specs.declared.stop.Stop.TheVariants.{Memory};
-ghost use Rattle.script_grammar.specs.Goes.{Deep, Goes, Reads};
-ghost use Rattle.script_grammar.specs.Grammar.{grammar};
-ghost use Rattle.script_grammar.specs.Rules.Symbol.{Script};
+ghost use Rattle.script_grammar.specs.Goes.{Deep, Reads};
 
 use crate::ParseStop;
 use crate::knot::{assignment, body, expression, statement};
@@ -52,7 +50,7 @@ pub fn parse(alloc: Global, tokens: &[Token]) -> Result<Script, ParseStop>
 
 /// What the row of a script has of the tokens.
 fn whole(alloc: Global, tokens: &[Token]) -> Result<Script, Stop>
-    ensures { MatchResult result (λ tree. Reads tokens.now tree 200) (λ stop. stop ≢ Memory → Goes 200 Script 0 (grammar Script) tokens.now (Err stop)) }
+    ensures { MatchResult result (λ tree. Reads tokens.now tree 200) (λ stop. stop ≢ Memory → Stopped tokens.now stop) }
 {
     let below = Below {
         alloc,

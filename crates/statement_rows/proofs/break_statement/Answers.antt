@@ -17,19 +17,19 @@ use Rattle.statement_rows.proofs.Endings.{unended, unhalted, unjumped, unended_n
 use Rattle.statement_rows.proofs.break_statement.Goals as goal
 
 pub returns-in_err-token-clause-meets : goal.returns-in_err-token-clause-meets
-returns-in_err-token-clause-meets g c = handed (Statement c.args.around) c.args.base (statement_as c.args.around start.Break) c.args.tokens.now c.from_residual.result c.from_residual.ensures.1
+returns-in_err-token-clause-meets c = handed (Statement c.args.around) c.args.base (statement_as c.args.around start.Break) c.args.tokens.now c.from_residual.result c.from_residual.ensures.1
     (λ not. no _ (sym c.breaks.ensures ∙ c.if-not-breaks.true) (refuses_end c.in_err-token.ensures.0 c.in_err-token.ensures.1))
 
 pub returns-then-not-breaks-clause-meets : goal.returns-then-not-breaks-clause-meets
-returns-then-not-breaks-clause-meets g c not = row (no _ (sym c.breaks.ensures ∙ c.if-not-breaks.true) (refuses c.in_ok-token.ensures c.refused.ensures))
+returns-then-not-breaks-clause-meets c not = row (no _ (sym c.breaks.ensures ∙ c.if-not-breaks.true) (refuses c.in_ok-token.ensures c.refused.ensures))
 
 pub returns-in_err-stood-clause-meets : goal.returns-in_err-stood-clause-meets
-returns-in_err-stood-clause-meets g c = handed (Statement c.args.around) c.args.base (statement_as c.args.around start.Break) c.args.tokens.now c.from_residual-in_err-stood.result c.from_residual-in_err-stood.ensures.1
+returns-in_err-stood-clause-meets c = handed (Statement c.args.around) c.args.base (statement_as c.args.around start.Break) c.args.tokens.now c.from_residual-in_err-stood.result c.from_residual-in_err-stood.ensures.1
     (λ not. yes _ (sym c.breaks.ensures ∙ c.if-not-breaks.false) (c.in_err-stood.ensures.stands.row (Statement c.args.around) 0 (jump s.Break)))
 
 pub returns-in_err-ended-clause-meets : goal.returns-in_err-ended-clause-meets
-returns-in_err-ended-clause-meets g c = handed (Statement c.args.around) c.args.base (statement_as c.args.around start.Break) c.args.tokens.now c.from_residual-in_err-ended.result c.from_residual-in_err-ended.ensures.1
+returns-in_err-ended-clause-meets c = handed (Statement c.args.around) c.args.base (statement_as c.args.around start.Break) c.args.tokens.now c.from_residual-in_err-ended.result c.from_residual-in_err-ended.ensures.1
     (λ not. yes _ (sym c.breaks.ensures ∙ c.if-not-breaks.false) (c.in_ok-stood.ensures.stands.row (Statement c.args.around) 0 (jump s.Break) _ (unjumped s.Break c.in_err-ended.ensures)))
 
 pub returns-clause-meets : goal.returns-clause-meets
-returns-clause-meets g c = row (yes _ (sym c.breaks.ensures ∙ c.if-not-breaks.false) (c.in_ok-stood.ensures.stands.row (Statement c.args.around) 0 (jump s.Break) _ (jumped c.break_out.ensures (omega arith) c.in_ok-ended.ensures)))
+returns-clause-meets c = row (yes _ (sym c.breaks.ensures ∙ c.if-not-breaks.false) (c.in_ok-stood.ensures.stands.row (Statement c.args.around) 0 (jump s.Break) _ (jumped c.break_out.ensures (omega arith) c.in_ok-ended.ensures)))

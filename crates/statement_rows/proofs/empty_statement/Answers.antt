@@ -17,8 +17,8 @@ use Rattle.statement_rows.proofs.Endings.{unended, unhalted, unjumped, unended_n
 use Rattle.statement_rows.proofs.empty_statement.Goals as goal
 
 pub returns-in_err-stood-clause-meets : goal.returns-in_err-stood-clause-meets
-returns-in_err-stood-clause-meets g c a = handed (Statement a) c.args.base (statement_as a start.Empty) c.args.tokens.now c.from_residual.result c.from_residual.ensures.1
+returns-in_err-stood-clause-meets c a = handed (Statement a) c.args.base (statement_as a start.Empty) c.args.tokens.now c.from_residual.result c.from_residual.ensures.1
     (λ not. c.in_err-stood.ensures.stands.row (Statement a) 0 (give s.Empty))
 
 pub returns-clause-meets : goal.returns-clause-meets
-returns-clause-meets g c a = row (c.in_ok-stood.ensures.stands.row (Statement a) 0 (give s.Empty) _ (gives c.empty.ensures (omega arith)))
+returns-clause-meets c a = row (c.in_ok-stood.ensures.stands.row (Statement a) 0 (give s.Empty) _ (gives c.empty.ensures (omega arith)))
