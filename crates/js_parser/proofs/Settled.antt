@@ -4,7 +4,7 @@ use Rattle.js_lexer.specs.declared.Kind.TheVariants as kind
 use Rattle.js_lexer.specs.declared.Token.{Token}
 use Rattle.js_lexer.specs.Tokens.{EndsOnce}
 use Rattle.js_lexer.specs.Tokens.EndsOnce.{last, more}
-use Rattle.js_parser.specs.Parses.{refusal}
+use Rattle.js_parser.specs.Parses.{Refused, refusal, told}
 use Rattle.js_parser.specs.declared.ParseStop.{ParseStop}
 use Rattle.js_parser.specs.declared.ParseStop.TheVariants as why
 use Rattle.js_tree.specs.declared.Script as script
@@ -82,14 +82,6 @@ faulty {ts} {form} {place} {o} w g = elim (cut (w.before ++ w.token ∷ []) w.af
 pub not_faulty : {ts : List Token} {tree : script.Script} {form : Option Form} {place : ℕ} → Reads ts tree 200 → FirstWrong ts form place → ⊥
 not_faulty r w = ok_not_err (faulty w r.2)
 
--- the same refusal in the parser's words
-abbrev told : Stop → ParseStop
-told (Syntax place) = why.Syntax place
-told (LeftOut place form) = why.LeftOut place form
-told Nesting = why.Nesting
-told Ends = why.Memory
-told Memory = why.Memory
-
 told_fault : (form : Option Form) (place : ℕ) → told (fault form place) ≡ refusal form place
 told_fault (Some form) place = refl
 told_fault None place = refl
@@ -97,7 +89,43 @@ told_fault None place = refl
 pub refuses : {ts : List Token} {form : Option Form} {place : ℕ} {e : Stop} → Top ts (Err e) → FirstWrong ts form place → told e ≡ refusal form place
 refuses {form = form} {place = place} g w = ap told (same_stop (faulty w g)) ∙ told_fault form place
 
--- ---- nesting
+-- ---- each answer
 
-pub too_deep : {ts : List Token} (front rest : List Token) → Shallow 200 ts → ts ≡ front ++ rest → Deep 200 front → ⊥
+too_deep : {ts : List Token} (front rest : List Token) → Shallow 200 ts → ts ≡ front ++ rest → Deep 200 front → ⊥
 too_deep front rest s e deep = s front rest e deep
+
+pub not_deep : {ts : List Token} {tree : script.Script} → Reads ts tree 200 → (front rest : List Token) → ts ≡ front ++ rest → Deep 200 front → ⊥
+not_deep r front rest e deep = too_deep front rest (shallow r).1 e deep
+
+syntax_other : (place : ℕ) → Syntax place ≡ Memory → ⊥
+syntax_other place e = cc
+
+left_out_other : (place : ℕ) (form : Form) → LeftOut place form ≡ Memory → ⊥
+left_out_other place form e = cc
+
+nesting_other : Nesting ≡ Memory → ⊥
+nesting_other e = cc
+
+ends_other : Ends ≡ Memory → ⊥
+ends_other e = cc
+
+module _ {ts : List Token} where
+  pub never_short : (e : Stop) → EndsOnce ts → (e ≢ Memory → Top ts (Err e)) → e ≢ Ends
+  never_short e once w i = not_short (has_end once) (w (λ k. ends_other (sym i ∙ k))) (ap (λ x. Err x) i)
+
+  pub refused : (e : Stop) → e ≢ Ends → (e ≢ Memory → Top ts (Err e)) → Refused ts (told e)
+  refused (Syntax place) never w = answers_err (Syntax place) (w (syntax_other place))
+  refused (LeftOut place form) never w = answers_err (LeftOut place form) (w (left_out_other place form))
+  refused Nesting never w = answers_err Nesting (w nesting_other)
+  refused Ends never w = absurd (never refl)
+  refused Memory never w = tt
+
+  pub nested : (e : Stop) → (e ≢ Memory → Top ts (Err e)) → e ≢ Memory → (front rest : List Token) → ts ≡ front ++ rest → Deep 200 front → told e ≡ why.Nesting
+  nested (Syntax place) w never front rest q deep = absurd (too_deep front rest (answers_err (Syntax place) (w never)).1 q deep)
+  nested (LeftOut place form) w never front rest q deep = absurd (too_deep front rest (answers_err (LeftOut place form) (w never)).1 q deep)
+  nested Nesting w never front rest q deep = refl
+  nested Ends w never front rest q deep = absurd (too_deep front rest (answers_err Ends (w never)).1 q deep)
+  nested Memory w never front rest q deep = absurd (never refl)
+
+pub remembers : {e : Stop} {r : ParseStop} → r ≡ told e → (◌≡◌ {A = Result script.Script ParseStop} (Err r) (Err why.Memory) → ⊥) → e ≢ Memory
+remembers q not i = not (ap (λ x. Err x) (q ∙ ap told i))

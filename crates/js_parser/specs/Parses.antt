@@ -6,7 +6,7 @@ use Rattle.js_parser.specs.declared.ParseStop.TheVariants as stop
 use Rattle.script_grammar.specs.Claims.{FirstWrong, Shallow}
 use Rattle.script_grammar.specs.declared.Form.{Form}
 use Rattle.script_grammar.specs.declared.stop.Stop.{Stop}
-use Rattle.script_grammar.specs.declared.stop.Stop.TheVariants.{Ends}
+use Rattle.script_grammar.specs.declared.stop.Stop.TheVariants.{Ends, LeftOut, Memory, Nesting, Syntax}
 use Rattle.script_grammar.specs.Goes.{Deep, Goes}
 use Rattle.script_grammar.specs.Grammar.{grammar}
 use Rattle.script_grammar.specs.Rules.Symbol.{Script}
@@ -23,6 +23,14 @@ Refused ts stop.Memory = Unit {0}
 abbrev pub refusal : Option Form → ℕ → ParseStop
 refusal None place = stop.Syntax place
 refusal (Some form) place = stop.LeftOut place form
+
+-- Why a row stops, as the callers are told. The tokens of a whole script never end too early.
+abbrev pub told : Stop → ParseStop
+told (Syntax place) = stop.Syntax place
+told (LeftOut place form) = stop.LeftOut place form
+told Nesting = stop.Nesting
+told Ends = stop.Memory
+told Memory = stop.Memory
 
 -- The end stands first.
 abbrev pub AtEnd : List Token → Type 0

@@ -4,11 +4,12 @@ ghost use Rattle.std.specs.Prelude.{◌≡◌, ◌≢◌, ◌≤◌, ◌++◌, �
 ghost use Rattle.js_lexer.specs.declared.Token.{Token};
 ghost use Rattle.js_lexer.specs.Tokens.{EndsOnce};
 ghost use Rattle.js_tree.specs.declared.Script as script;
+ghost use Rattle.js_parser.specs.Parses as spec;
 ghost use Rattle.js_parser.specs.Parses.{AtEnd, NotAtEnd, Refused, Stopped, refusal};
 ghost use Rattle.js_parser.specs.declared.ParseStop.TheVariants as why;
 ghost use Rattle.script_grammar.specs.Claims.{FirstWrong, Shallow};
 ghost use Rattle.script_grammar.specs.declared.Form.{Form};
-ghost use Rattle.script_grammar.specs.declared.stop.Stop.TheVariants.{Memory};
+ghost use Rattle.script_grammar.specs.declared.stop.Stop.TheVariants.{Ends, Memory};
 ghost use Rattle.script_grammar.specs.Goes.{Deep, Reads};
 
 use crate::ParseStop;
@@ -40,11 +41,21 @@ pub fn parse(alloc: Global, tokens: &[Token]) -> Result<Script, ParseStop>
 {
     match whole(alloc, tokens) {
         Ok(tree) => Ok(tree),
-        Err(Stop::Syntax(place)) => Err(ParseStop::Syntax(place)),
-        Err(Stop::LeftOut(place, form)) => Err(ParseStop::LeftOut(place, form)),
-        Err(Stop::Nesting) => Err(ParseStop::Nesting),
-        Err(Stop::Ends) => unreachable!(),
-        Err(Stop::Memory) => Err(ParseStop::Memory),
+        Err(stop) => Err(told(stop)),
+    }
+}
+
+/// Why a row stops, as the parser's callers are told.
+fn told(stop: Stop) -> ParseStop
+    requires whole { stop ≢ Ends }
+    ensures { result ≡ spec.told stop }
+{
+    match stop {
+        Stop::Syntax(place) => ParseStop::Syntax(place),
+        Stop::LeftOut(place, form) => ParseStop::LeftOut(place, form),
+        Stop::Nesting => ParseStop::Nesting,
+        Stop::Ends => unreachable!(),
+        Stop::Memory => ParseStop::Memory,
     }
 }
 

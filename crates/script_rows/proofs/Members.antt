@@ -15,6 +15,7 @@ use Rattle.js_tree.specs.declared.Stmt.{Stmt}
 use Rattle.js_tree.specs.Trees.{case_of}
 use Rattle.part_rows.specs.Lines.{Opened, TookBody, MissesBody}
 use Rattle.part_rows.proofs.Hungry.{declaration_shorter, statement_shorter}
+use Rattle.part_rows.proofs.Joints.{left_true}
 use Rattle.part_rows.proofs.Turns.{chain, turn_element, turn_function}
 use Rattle.script_grammar.specs.Goes.{Goes}
 use Rattle.script_grammar.specs.Grammar.{grammar, as_read, expect, outer}
@@ -53,16 +54,12 @@ module _ {c : Context} {stood : Bool} {b height : ℕ} {one : clause.Case} {ts a
   pub case_shorter : TookCase c b after one height rest → length rest < length ts
   case_shorter took = omega (arith, ap length next, case_after took)
 
-left_of : (a d : Bool) → a && d ≡ true → a ≡ true
-left_of true d e = refl
-left_of false d e = e
-
 module _ {c : Context} {stood : Bool} {b height : ℕ} {body : List Stmt} {ts after rest : List Token} {t : Token} (next : ts ≡ t ∷ after) (first : is_word w.Case t ≡ false) where
   pub turn_default : is_word w.Default t && not stood ≡ true → TookBody c b after body height rest → (one : clause.Case) → one ≡ case_of None body → (so_far : List clause.Case)
       → Turns c b true stood (so_far ++ one ∷ []) so_far height rest ts
   turn_default q took one e so_far = subst (λ x. Turns c b true stood (so_far ++ x ∷ []) so_far height rest ts) (sym e) (record {
-    reads = λ v h left g. row (peeks next (no _ first (yes _ q (eats (live_word w.Default t (left_of _ _ q)) next (took.row (Clauses c stood so_far) 0 (λ x. With c stood true so_far (case_of None x)) _ (passes_level g (gives refl (omega arith))))))));
-    stops = λ e g. row (peeks next (no _ first (yes _ q (eats (live_word w.Default t (left_of _ _ q)) next (took.row (Clauses c stood so_far) 0 (λ x. With c stood true so_far (case_of None x)) _ (fails_level g))))));
+    reads = λ v h left g. row (peeks next (no _ first (yes _ q (eats (live_word w.Default t (left_true _ _ q)) next (took.row (Clauses c stood so_far) 0 (λ x. With c stood true so_far (case_of None x)) _ (passes_level g (gives refl (omega arith))))))));
+    stops = λ e g. row (peeks next (no _ first (yes _ q (eats (live_word w.Default t (left_true _ _ q)) next (took.row (Clauses c stood so_far) 0 (λ x. With c stood true so_far (case_of None x)) _ (fails_level g))))));
   })
 
   body_after : TookBody c b after body height rest → length rest ≤ length after

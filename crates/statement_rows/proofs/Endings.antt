@@ -57,7 +57,7 @@ abbrev pub parenthesized : {c : Context} → Rule (Statement c)
 parenthesized = read 1 (Expr false) (λ v _. ends (s.Expression v.expr))
 
 pub opened_deep : {c : Context} {b h : ℕ} {ts rest : List Token} {t : Token} → ts ≡ t ∷ rest → Opened ts → 200 < b + 1 → Has (Statement c) b (stand 1 parenthesized) ts h (Err Nesting)
-opened_deep {c} {b} {h} {ts} {rest} {t} e open deep = begins_too_deep {k = 1} e deep 200 (failed (opens_expression 200 t (open t rest e) false (b + 1)))
+opened_deep {c} {b} {h} {ts} {rest} {t} e bracket deep = begins_too_deep {k = 1} e deep 200 (failed (opens_expression 200 t (bracket t rest e) false (b + 1)))
 
 pub begins_end : {n : Symbol} {b k h : ℕ} {r : Rule n} {ts : List Token} {e : Stop} → ts ≡ [] → e ≡ Ends → Has n b (stand k r) ts h (Err e)
 begins_end {n} {b} {k} {h} {r} q w = subst (λ x. Has n b (stand k r) x h (Err _)) (sym q) (subst (λ y. Has n b (stand k r) [] h (Err y)) (sym w) (has ends_stand refl))

@@ -14,7 +14,7 @@ returns-in_err-tree c = handed_on (Î» tree. Reads c.args.tokens.now tree 200) (Î
 
 pub returns-in-Ok : goal.returns-in-Ok
 returns-in-Ok c = let x = c.in-Ok.ensures in
-    (_, (_, row (passes_level c.in_ok-tree.ensures.meets (peeks x.2 (yes (refuse None) x.3 (gives refl refl))))))
+    (_, _, row (passes_level c.in_ok-tree.ensures.meets (peeks x.2 (yes (refuse None) x.3 (gives refl refl)))))
 
 pub returns-in-Err : goal.returns-in-Err
 returns-in-Err c _ = row (passes_level c.in_ok-tree.ensures.meets (elim c.in-Err.ensures [

@@ -9,7 +9,7 @@ use Rattle.js_tree.specs.declared.Stmt.{Stmt}
 use Rattle.js_tree.specs.Trees.{case_of, catch_of, declaration_of}
 use Rattle.part_rows.specs.Lines.{TookBody, MissesBody, catch_rule}
 use Rattle.part_rows.proofs.Hungry.{declaration_shorter, statement_shorter}
-use Rattle.part_rows.proofs.Joints.{begun_start, onward}
+use Rattle.part_rows.proofs.Joints.{begun_start, left_true, onward}
 use Rattle.part_rows.proofs.Turns.{at_last, chain}
 use Rattle.script_grammar.specs.Grammar.{grammar, statement_as, after_try, a_name, as_read, block, expect, function, in_parentheses, switch}
 use Rattle.script_grammar.specs.Rules.{Context, Symbol, Rule}
@@ -42,7 +42,7 @@ returns-then-is_word-clause-takes g c = record { row = turn_case c.in_ok-token.e
 
 pub returns-in_err-body-clause-takes : goal.returns-in_err-body-clause-takes
 returns-in_err-body-clause-takes g c = handed_on (λ o. MatchOption o (λ p. TookClause c.args.around c.args.stood c.args.base c.args.tokens.now p.0 p.1 p.2 p.3.now) (NoClause c.args.around c.args.stood c.args.base c.args.tokens.now)) (λ e. e ≢ Memory → MissesClause c.args.around c.args.stood c.args.base c.args.tokens.now e)
-    c.from_residual-in_err-body.result c.from_residual-in_err-body.ensures.1 (λ not. record { row = λ so_far. row (peeks c.in_ok-token.ensures (no _ (sym c.is_word.ensures ∙ c.if-is_word.false) (yes _ (sym c.defaults.ensures ∙ c.if-defaults.true) (eats (live_word w.Default _ (defaults_word _ _ (sym c.defaults.ensures ∙ c.if-defaults.true))) c.in_ok-token.ensures ((c.in_err-body.ensures.takes not).row (Clauses c.args.around c.args.stood so_far) 0 (λ x. With c.args.around c.args.stood true so_far (case_of None x))))))) })
+    c.from_residual-in_err-body.result c.from_residual-in_err-body.ensures.1 (λ not. record { row = λ so_far. row (peeks c.in_ok-token.ensures (no _ (sym c.is_word.ensures ∙ c.if-is_word.false) (yes _ (sym c.defaults.ensures ∙ c.if-defaults.true) (eats (live_word w.Default _ (left_true _ _ (sym c.defaults.ensures ∙ c.if-defaults.true))) c.in_ok-token.ensures ((c.in_err-body.ensures.takes not).row (Clauses c.args.around c.args.stood so_far) 0 (λ x. With c.args.around c.args.stood true so_far (case_of None x))))))) })
 
 pub returns-then-defaults-clause-takes : goal.returns-then-defaults-clause-takes
 returns-then-defaults-clause-takes g c = record { row = turn_default c.in_ok-token.ensures (sym c.is_word.ensures ∙ c.if-is_word.false) (sym c.defaults.ensures ∙ c.if-defaults.true) c.in_ok-body.ensures.takes _ c.case.ensures; shorter = default_shorter c.in_ok-token.ensures (sym c.is_word.ensures ∙ c.if-is_word.false) c.in_ok-body.ensures.takes }

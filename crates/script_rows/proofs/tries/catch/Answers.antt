@@ -9,7 +9,7 @@ use Rattle.js_tree.specs.declared.Stmt.{Stmt}
 use Rattle.js_tree.specs.Trees.{case_of, catch_of, declaration_of}
 use Rattle.part_rows.specs.Lines.{TookBody, MissesBody, catch_rule}
 use Rattle.part_rows.proofs.Hungry.{declaration_shorter, statement_shorter}
-use Rattle.part_rows.proofs.Joints.{begun_start, onward}
+use Rattle.part_rows.proofs.Joints.{begun_start, left_true, onward}
 use Rattle.part_rows.proofs.Turns.{at_last, chain}
 use Rattle.script_grammar.specs.Grammar.{grammar, statement_as, after_try, a_name, as_read, block, expect, function, in_parentheses, switch}
 use Rattle.script_grammar.specs.Rules.{Context, Symbol, Rule}
