@@ -13,7 +13,7 @@ use Rattle.script_grammar.proofs.Along as along
 use Rattle.script_grammar.proofs.Tokens.{live_word}
 use Rattle.part_rows.proofs.Joints.{refuses_end, onward, ended, halted, jumped, ended_name}
 use Rattle.statement_rows.specs.Rests.{do_rule, else_rule, second_rule, test_rule, TookTest, MissesTest}
-use Rattle.statement_rows.proofs.Endings.{unended, unhalted, unjumped, unended_name, within, within_err, tested, opened_deep, begins_end}
+use Rattle.statement_rows.proofs.Endings.{unended, unhalted, unjumped, unended_name, from_none, from_none_err, within, within_err, tested, opened_deep, begins_end}
 use Rattle.statement_rows.proofs.var_statement.Goals as goal
 
 abbrev names : {c : _} → Rule (Statement c)
@@ -25,10 +25,10 @@ returns-in_err-stood-clause-meets g c = handed (Statement c.args.around) c.args.
 
 pub returns-in_err-all-clause-meets : goal.returns-in_err-all-clause-meets
 returns-in_err-all-clause-meets g c = handed (Statement c.args.around) c.args.base (statement_as c.args.around start.Var) c.args.tokens.now c.from_residual-in_err-all.result c.from_residual-in_err-all.ensures.1
-    (λ not. c.in_ok-stood.ensures.stands.row (Statement c.args.around) 0 (names) _ (fails (c.in_err-all.ensures.meets not)))
+    (λ not. c.in_ok-stood.ensures.stands.row (Statement c.args.around) 0 (names) _ (fails (from_none_err c.new.ensures (c.in_err-all.ensures.meets not))))
 
 pub returns-in-Ok-clause-meets : goal.returns-in-Ok-clause-meets
-returns-in-Ok-clause-meets g c = row (c.in_ok-stood.ensures.stands.row (Statement c.args.around) 0 (names) _ (passes c.in_ok-all.ensures.meets (ended c.var.ensures (omega arith) c.in-Ok.ensures)))
+returns-in-Ok-clause-meets g c = row (c.in_ok-stood.ensures.stands.row (Statement c.args.around) 0 (names) _ (passes (from_none c.new.ensures c.in_ok-all.ensures.meets) (ended c.var.ensures (omega arith) c.in-Ok.ensures)))
 
 pub returns-in-Err-clause-meets : goal.returns-in-Err-clause-meets
-returns-in-Err-clause-meets g c not = row (c.in_ok-stood.ensures.stands.row (Statement c.args.around) 0 (names) _ (passes c.in_ok-all.ensures.meets (unended (s.Var _) c.in-Err.ensures)))
+returns-in-Err-clause-meets g c not = row (c.in_ok-stood.ensures.stands.row (Statement c.args.around) 0 (names) _ (passes (from_none c.new.ensures c.in_ok-all.ensures.meets) (unended (s.Var _) c.in-Err.ensures)))

@@ -13,7 +13,7 @@ use Rattle.script_grammar.proofs.Along as along
 use Rattle.script_grammar.proofs.Tokens.{live_word}
 use Rattle.part_rows.proofs.Joints.{refuses_end, onward, ended, halted, jumped, ended_name}
 use Rattle.statement_rows.specs.Rests.{do_rule, else_rule, second_rule, test_rule, TookTest, MissesTest}
-use Rattle.statement_rows.proofs.Endings.{unended, unhalted, unjumped, unended_name, within, within_err, tested, opened_deep, begins_end}
+use Rattle.statement_rows.proofs.Endings.{unended, unhalted, unjumped, unended_name, from_none, from_none_err, within, within_err, tested, opened_deep, begins_end}
 use Rattle.statement_rows.proofs.while_statement.Goals as goal
 
 abbrev body : {c : _} → expr.Expr → Rule (Statement c)
