@@ -1,0 +1,10 @@
+pub mod Accesses_facts
+pub mod Acts
+pub mod Chains
+pub mod Keys
+pub mod Look
+pub mod Made
+pub mod Tables
+pub mod Turn
+pub mod Watches
+pub mod Whole
