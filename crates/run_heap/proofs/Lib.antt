@@ -1,9 +1,12 @@
 pub mod Accesses_facts
 pub mod Acts
 pub mod Chains
+pub mod Index_keys
 pub mod Keys
 pub mod Look
 pub mod Made
+pub mod Putting
+pub mod Shorter
 pub mod Tables
 pub mod Turn
 pub mod Watches

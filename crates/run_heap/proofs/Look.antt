@@ -34,7 +34,7 @@ use Rattle.run_heap.proofs.Watches.{edited_watch, look_some, look_none, put_some
 use Rattle.run_heap.proofs.Acts.{Edits, paid_same}
 use Rattle.run_heap.proofs.Turn.{Keeps, works_one, works_spends, edit_goes, edit_spends, core}
 
-with_same : (cells : List Cell) (i : ℕ) → held.with_props cells i (props_at cells i) ≡ cells
+pub with_same : (cells : List Cell) (i : ℕ) → held.with_props cells i (props_at cells i) ≡ cells
 with_same [] i = refl
 with_same (c ∷ cells) zero = refl
 with_same (c ∷ cells) (suc i) = ap (λ l. c ∷ l) (with_same cells i)

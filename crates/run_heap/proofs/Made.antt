@@ -22,6 +22,7 @@ use Rattle.run_heap.specs.declared.Place.{Place}
 use Rattle.run_heap.specs.Core.{Core, count, names_in}
 use Rattle.run_heap.specs.Placed.{placed, Around, seen_in, props_in, known_one, known_of, props_of, chain_from, chain_of, above, table}
 use Rattle.run_heap.specs.Works.{Performs, Works}
+use Rattle.run_heap.specs.Making.{Adds, AddsAt, IsBare, array_props}
 use Rattle.branch_check.specs.Watch.{Watch}
 use Rattle.slot_watch.specs.Slots.{Slots}
 use Rattle.slot_watch.specs.Named.{named}
@@ -31,10 +32,16 @@ use Rattle.branch_check.specs.Watch.{watch_of}
 use Rattle.slot_watch.specs.Named.{cell_number, number_of_cell}
 use Rattle.slot_watch.specs.Within.{CellsWithin}
 use Rattle.slot_watch.proofs.Renaming.{holds_of}
-use Rattle.value_cells.specs.Does.{Spends, Did}
+use Rattle.value_cells.specs.Does.{Spends, Fails, Did, told, told_stop}
+use Rattle.std.specs.Prelude.{Result, Ok, Err, IfOk, IfErr}
+use Rattle.value_cells.specs.declared.OpStop.{OpStop}
+use Rattle.value_cells.specs.declared.OpStop.TheVariants.{Memory}
+use Rattle.value_cells.specs.Held as held
+use Rattle.turk_base.specs.Steps.{steps_of}
+use Rattle.turk_base.specs.Prog.{Make}
 use Rattle.run_heap.specs.Whole.{IsCore}
 use Rattle.run_heap.proofs.Tables.{path_apart, name_at}
-use Rattle.run_heap.proofs.Turn.{works_spends}
+use Rattle.run_heap.proofs.Turn.{works_spends, works_fails, keeps_same}
 use Rattle.run_heap.proofs.Acts.{step_goes, step_spends, made_same}
 
 chain_push : (kinds : List CellKind) (older : (i : ℕ) (k : CellKind) → slice_get kinds i ≡ Some k → kind_needs k ≤ i) (k : CellKind) (d i : ℕ) → i < length kinds → chain_from (kinds ++ k ∷ []) d i ≡ chain_from kinds d i
@@ -100,17 +107,6 @@ module _ (nu : Naming) (cells : List Cell) (whole : IsWhole cells) (c : Cell) wh
       ap (λ n. table nu (λ i. props_in nu (props_at (cells ++ c ∷ []) i)) [] n m) long
       ∙ (λ x. pick (name_eq m (nu (length cells))) (props_in nu (last_at cells c x))
           (table_same nu [] (λ i. props_in nu (props_at (cells ++ c ∷ []) i)) (λ i. props_in nu (props_at cells i)) (length cells) (λ i h. ap (props_in nu) (same_at cells c i h)) m x))
-
--- what the code did when it made a cell
-pub record Adds (c : Cell) (old new : Core) : Type 0 where
-  pub cells : new.cells.now ≡ old.cells.now ++ c ∷ []
-  pub slots : new.slots ≡ old.slots
-  pub made : new.place.made ≡ suc old.place.made
-  pub path : new.place.path ≡ old.place.path
-  pub branch : new.place.branch ≡ old.place.branch
-  pub left : new.left ≡ old.left
-  pub scope : c.name.scope ≡ old.place.path
-  pub number : c.name.number ≡ old.place.made
 
 module _ (c : Cell) (old new : Core) (whole : IsWhole old.cells.now) (h : Adds c old new) where
   names_push : names_in new.cells.now ≡ names_in old.cells.now ++ name_in c.name ∷ []
@@ -265,3 +261,73 @@ make_paid old new kind said h y = record {
 -- the next name is new
 pub fresh_name : (core : Core) → IsCore core → (n : CellName) → n.scope ≡ core.place.path → n.number ≡ core.place.made → (i : ℕ) → slice_get (names_of core.cells.now) i ≡ Some n → ⊥
 fresh_name core k n scope number i e = let o = k.own.own i (name_in n) (name_at core.cells.now i n e) (ap path_in scope) in omega (arith, o, number)
+
+-- ---- what the code tells of a cell that is added
+
+pub adds_count : (c : Cell) (old new : Core) → Adds c old new → count new ≡ suc (count old)
+adds_count c old new h = ap length h.cells ∙ length-append old.cells.now (c ∷ []) ∙ omega arith
+
+bare_props : (kind : CellKind) → IsBare kind → (nu : Naming) → first_props (kind_in nu kind) ≡ []
+bare_props (Frame p) h nu = refl
+bare_props (Plain p) h nu = refl
+bare_props Array h nu = absurd h
+bare_props (Function n f) h nu = refl
+bare_props (BuiltIn w) h nu = refl
+
+at_works : (kind : CellKind) (ps : Props) (number : ℕ) (old new : Core) → IsWhole old.cells.now → kind_needs kind ≤ count old → ((nu : Naming) → first_props (kind_in nu kind) ≡ props_in nu ps) → AddsAt kind ps number old new
+    → Works (λ nu. step (make false (kind_in nu kind)) give) (λ nu. Says (nu number)) old new
+at_works kind ps number old new whole l first a =
+    let w = add_works a.what old new whole a.adds (omega (arith, l, ap kind_needs a.kind_is)) (λ nu. ap (λ k. first_props (kind_in nu k)) a.kind_is ∙ first nu ∙ ap (props_in nu) (sym a.props_are)) in
+    subst (λ k. Works (λ nu. step (make false (kind_in nu k)) give) (λ nu. Says (nu number)) old new) a.kind_is
+    (subst (λ n. Works (λ nu. step (make false (kind_in nu a.what.kind)) give) (λ nu. Says (nu n)) old new) (sym a.number_is) w)
+
+pub bare_works : (kind : CellKind) (r : Result ℕ OpStop) (old new : Core) → IsWhole old.cells.now → IsBare kind → kind_needs kind ≤ count old → IfOk r (λ n. AddsAt kind [] n old new)
+    → IfErr r (λ e. (e ≡ Memory) × (new ≡ old)) → Works (λ nu. step (make false (kind_in nu kind)) give) (λ nu. told nu r) old new
+bare_works kind (Ok n) old new whole bare l a h = at_works kind [] n old new whole l (bare_props kind bare) a
+bare_works kind (Err e) old new whole bare l a h =
+    let g = λ (nu : Naming). step (make false (kind_in nu kind)) give in
+    subst (λ e. Works g (λ nu. told_stop e) old new) (sym h.0) (subst (λ s. Works g (λ nu. Fails) old s) (sym h.1) (works_fails g old old (keeps_same old)))
+
+with_last : (cells : List Cell) (c : Cell) (ps : Props) → held.with_props (cells ++ c ∷ []) (length cells) ps ≡ cells ++ record c { props = ps } ∷ []
+with_last [] c ps = refl
+with_last (d ∷ cells) c ps = ap (λ l. d ∷ l) (with_last cells c ps)
+
+-- its length begins an array
+pub array_adds : (number : ℕ) (old mid new : Core) → AddsAt Array [] number old mid → new ≡ record mid { cells = record mid.cells { now = held.with_props mid.cells.now number array_props } }
+    → AddsAt Array array_props number old new
+array_adds number old mid new a e = record {
+  what = record a.what { props = array_props };
+  kind_is = a.kind_is;
+  props_are = refl;
+  adds = record {
+    cells = ap (λ (s : Core). s.cells.now) e ∙ (λ i. held.with_props (a.adds.cells i) (a.number_is i) array_props) ∙ with_last old.cells.now a.what array_props;
+    slots = ap (λ (s : Core). s.slots) e ∙ a.adds.slots;
+    made = ap (λ (s : Core). s.place.made) e ∙ a.adds.made;
+    path = ap (λ (s : Core). s.place.path) e ∙ a.adds.path;
+    branch = ap (λ (s : Core). s.place.branch) e ∙ a.adds.branch;
+    left = ap (λ (s : Core). s.left) e ∙ a.adds.left;
+    scope = a.adds.scope;
+    number = a.adds.number;
+  };
+  number_is = a.number_is;
+}
+
+pub array_works : (number : ℕ) (old mid new : Core) → IsWhole old.cells.now → AddsAt Array [] number old mid → new ≡ record mid { cells = record mid.cells { now = held.with_props mid.cells.now number array_props } }
+    → Works (λ nu. step (make false (kind_in nu Array)) give) (λ nu. Says (nu number)) old new
+array_works number old mid new whole a e = at_works Array array_props number old new whole (omega arith) (λ nu. refl) (array_adds number old mid new a e)
+
+pub array_fails : {B : Type 0} (number : ℕ) (old mid : Core) → IsWhole old.cells.now → AddsAt Array [] number old mid → (g : Naming → Small B) → Works g (λ nu. Fails) old mid
+array_fails number old mid whole a g = record { all = λ r. record { stays = adds_stays a.what old mid whole a.adds r; did = λ nu f. tt } }
+
+-- the cell that was made last has no property yet
+pub last_bare : (kind : CellKind) (number : ℕ) (old new : Core) → AddsAt kind [] number old new → props_at new.cells.now number ≡ []
+last_bare kind number old new a = (λ i. props_at (a.adds.cells i) (a.number_is i)) ∙ last_at old.cells.now a.what ∙ a.props_are
+
+pub makes_spends : (old : Core) (kind : CellKind) → old.left < 1 → Works (λ nu. steps_of (Make (kind_in nu kind))) (λ nu. Spends) old old
+unfolding steps_of
+makes_spends old kind h = make_spends old kind h
+
+pub makes_paid : (old new : Core) (kind : CellKind) (said : Naming → Told Name) → 1 ≤ old.left → Works (λ nu. step (make false (kind_in nu kind)) give) said (record old { left = old.left - 1 }) new
+    → Works (λ nu. steps_of (Make (kind_in nu kind))) said old new
+unfolding steps_of
+makes_paid old new kind said h y = make_paid old new kind said h y

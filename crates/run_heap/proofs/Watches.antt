@@ -12,15 +12,15 @@ edited_watch b c e p w = record {
   verdict = touch_all b c (touches e p) w.opened w.verdict;
 }
 
-pick_same : {A B : Type 0} (d : Dec A) (x : B) → pick d x x ≡ x
+pub pick_same : {A B : Type 0} (d : Dec A) (x : B) → pick d x x ≡ x
 pick_same (yes a) x = refl
 pick_same (no n) x = refl
 
-pick_no : {A B : Type 0} (d : Dec A) (x y : B) → ¬ A → pick d x y ≡ y
+pub pick_no : {A B : Type 0} (d : Dec A) (x y : B) → ¬ A → pick d x y ≡ y
 pick_no (yes a) x y n = absurd (n a)
 pick_no (no n) x y m = refl
 
-touched_other : (b : Path) (x y : Slot) (l : List Opening) → ¬ (x ≡ y) → touched b y (open_at x b l) ≡ touched b y l
+pub touched_other : (b : Path) (x y : Slot) (l : List Opening) → ¬ (x ≡ y) → touched b y (open_at x b l) ≡ touched b y l
 touched_other b x y [] n = pick_no (slot_eq x y) (pick (under b b) (touched b y []) true) (touched b y []) n
 touched_other b x y (opening z p ∷ l) n = by (slot_eq z x) (touched_other b x y l n)
   where

@@ -1,4 +1,6 @@
 pub mod Core
+pub mod Lengths
+pub mod Making
 pub mod Placed
 pub mod Stays
 pub mod Stored

@@ -1,5 +1,5 @@
 //! The accesses of a run: properties along the prototypes, deletion, and names in frames.
-ghost use Rattle.std.specs.Prelude.{◌≡◌, ◌<◌, ◌≤◌, ◌∷◌, [], None, IfOk, IfSome, IsSome, MatchOption};
+ghost use Rattle.std.specs.Prelude.{◌≡◌, ◌<◌, ◌≤◌, ◌∷◌, [], None, IfErr, IfOk, IfSome, IsSome, MatchOption};
 ghost use Rattle.std.specs.Option.{option_map};
 ghost use Rattle.turk_base.specs.Cells.{length_key};
 ghost use Rattle.turk_base.specs.Steps.{steps_of, drop_it, prototype_key};
@@ -14,6 +14,7 @@ ghost use Rattle.run_heap.specs.Stays.{stays_in};
 ghost use Rattle.run_heap.specs.Works.{Works};
 
 use crate::RunHeap;
+use std::alloc::Global;
 use turk_base::Units;
 use value_cells::{CellKind, OpStop, Value};
 
@@ -23,10 +24,22 @@ const LENGTH: [u16; 6] = [108, 101, 110, 103, 116, 104];
 /// The key `prototype`.
 const PROTOTYPE: [u16; 9] = [112, 114, 111, 116, 111, 116, 121, 112, 101];
 
-fn is_length(key: &Units) -> bool
+/// Whether a key is `length`.
+pub fn is_length(key: &Units) -> bool
     ensures { result ≡ key_eq length_key key.now }
 {
     LENGTH.as_slice() == key.as_slice()
+}
+
+/// The key `length` as a text.
+pub fn length_text(alloc: Global) -> Result<Units, OpStop>
+    ensures ok { IfOk result (λ key. key ≡ length_key) }
+    ensures err { IfErr result (λ e. e ≡ OpStop.Memory) }
+{
+    match Units::from_slice(alloc, LENGTH.as_slice()) {
+        Ok(key) => Ok(key),
+        Err(_) => Err(OpStop::Memory),
+    }
 }
 
 fn is_prototype(key: &Units) -> bool

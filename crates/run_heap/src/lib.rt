@@ -8,7 +8,11 @@ use turk_base::Path;
 use value_cells::Cells;
 
 mod accesses;
+mod classes;
+mod making;
+mod puts;
 mod steps;
+mod trims;
 
 /// The scope that runs or one around it: its path, the branch that holds it, and how many cells
 /// were made in it.

@@ -5,8 +5,8 @@ ghost use Rattle.turk_base.specs.Cells.{look as look_at, put as put_at, remove a
 ghost use Rattle.turk_base.specs.State.{charge, change};
 ghost use Rattle.turk_base.specs.Steps.{give, step};
 ghost use Rattle.value_cells.specs.Needs.{needs, option_needs, kind_needs};
-ghost use Rattle.std.specs.Map.{keys_of};
-ghost use Rattle.value_cells.specs.Held.{IsWhole, own, kinds_of, props_at};
+ghost use Rattle.std.specs.Map.{keys_of, remove_entry};
+ghost use Rattle.value_cells.specs.Held.{IsWhole, own, kinds_of, props_at, key_eq, with_props};
 ghost use Rattle.value_cells.specs.Seen.{val_in, kind_in};
 ghost use Rattle.value_cells.specs.Does.{told, Says};
 ghost use Rattle.run_heap.specs.Core.{count, Rests};
@@ -144,6 +144,7 @@ impl RunHeap {
         requires there { IsSome (own self.old.cells.now cell key.now) }
         ensures did { Works (λ nu. step (change true (nu cell) (remove_at key.now)) give) (λ nu. told (λ u. u) result) self.old self.new }
         ensures rests { Rests self.old self.new }
+        ensures cells { OnOk result (self.new.cells.now ≡ with_props self.old.cells.now cell (remove_entry (key_eq key.now) (props_at self.old.cells.now cell))) }
         ensures count { count self.new ≡ count self.old }
     {
         self.cells.known();
