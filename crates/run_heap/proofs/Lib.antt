@@ -1,5 +1,6 @@
 pub mod Accesses_facts
 pub mod Acts
+pub mod Beginnings
 pub mod Chains
 pub mod Index_keys
 pub mod Keys

@@ -20,7 +20,7 @@ use Rattle.value_cells.specs.Held.{Key, key_eq, kinds_of, IsWhole}
 use Rattle.value_cells.specs.Seen.{Naming, val_in, kind_in}
 use Rattle.value_cells.specs.Does.{Told, Says, Refuses, told, told_stop}
 use Rattle.run_heap.specs.Core.{Core, count}
-use Rattle.run_heap.specs.Lengths.{is_array, NumberIs}
+use Rattle.run_heap.specs.Lengths.{is_array, length_or_none, NumberIs}
 use Rattle.run_heap.specs.Placed.{chain_of}
 use Rattle.run_heap.specs.Works.{Works}
 use Rattle.run_heap.proofs.Keys.{pick_key}
@@ -38,16 +38,15 @@ works_same f g said s t e y = let same : f ≡ g = λ x nu. e nu x in subst (λ 
 module _ (i : ℕ) where
   -- ---- a length
 
-  too_long : {A : Type 0} (n : ℕ) (x : Small A) → 1000000 < n → (if nat_lt 1000000 n then refuse model.TooLong else x) ≡ refuse model.TooLong
-  too_long n x h = let t : nat_lt 1000000 n ≡ true = grind (arith, nat_tests) in ap (λ t. if t then refuse model.TooLong else x) t
-
-  pub length_below : (z : ℤ) (c : Core) → (natural z ≡ None) → Works (λ nu. set_length (nu i) (natural z)) (λ nu. told_stop TooLong) c c
-  length_below z c h = subst (λ o. Works (λ nu. set_length (nu i) o) (λ nu. Refuses model.TooLong) c c) (sym h) (works_refuse model.TooLong c)
-
-  pub length_past : (n : ℕ) (c : Core) → 1000000 < n → Works (λ nu. set_length (nu i) (Some n)) (λ nu. told_stop TooLong) c c
-  length_past n c h =
-      works_same (λ nu. refuse model.TooLong) (λ nu. set_length (nu i) (Some n)) (λ nu. Refuses model.TooLong) c c
-      (λ nu. sym (too_long n (step (change true (nu i) (trim n)) (λ _. put_key (nu i) length_key (Number (pos n)))) h)) (works_refuse model.TooLong c)
+  pub length_out_of_range : (z : ℤ) (c : Core) → length_or_none z ≡ None → Works (λ nu. set_length (nu i) (natural z)) (λ nu. told_stop TooLong) c c
+  length_out_of_range (negsuc n) c e = works_refuse model.TooLong c
+  length_out_of_range (pos n) c e = by (nat_lt 1000000 n) refl e
+    where
+      by : (t : Bool) → nat_lt 1000000 n ≡ t → (if t then None else Some n) ≡ None → Works (λ nu. set_length (nu i) (Some n)) (λ nu. Refuses model.TooLong) c c
+      by true h e =
+          works_same (λ nu. refuse model.TooLong) (λ nu. set_length (nu i) (Some n)) (λ nu. Refuses model.TooLong) c c
+          (λ nu. ap (λ t. if t then refuse model.TooLong else step (change true (nu i) (trim n)) (λ _. put_key (nu i) length_key (Number (pos n)))) (sym h)) (works_refuse model.TooLong c)
+      by false h e = cc
 
   trimmed : Naming → ℕ → Small (Unit {0})
   trimmed nu n = bind (step (change true (nu i) (trim n)) give) (λ _. put_key (nu i) length_key (Number (pos n)))

@@ -7,7 +7,7 @@ use Rattle.turk_base.specs.Cells.{KeyClass, index, class_of}
 use Rattle.turk_base.specs.Cells as meaning
 use Rattle.convert_rules.specs.declared.kinds.Prim.{Prim}
 use Rattle.convert_rules.specs.Prims.{val_of}
-use Rattle.std.specs.Prelude.{Option, Some, None, pos, not, nat_lt}
+use Rattle.std.specs.Prelude.{Option, Some, None, pos, negsuc, not, nat_lt, if◌then◌else◌}
 use Rattle.value_cells.specs.declared.Value.{Value}
 use Rattle.value_cells.specs.declared.Value.TheVariants.{Number}
 use Rattle.value_cells.specs.declared.OpStop.{OpStop}
@@ -54,3 +54,8 @@ AllFrom m (k ∷ ks) = ((i : ℕ) × (class_of k ≡ index i) × (m ≤ i)) × A
 abbrev pub grows_in : ℕ → Option Value → Bool
 grows_in i (Some (Number (pos n))) = not (nat_lt i n)
 grows_in i _ = false
+
+-- the length that a number is, at most 1,000,000
+abbrev pub length_or_none : ℤ → Option ℕ
+length_or_none (pos n) = if nat_lt 1000000 n then None else Some n
+length_or_none (negsuc n) = None

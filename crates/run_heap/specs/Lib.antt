@@ -1,3 +1,4 @@
+pub mod Begins
 pub mod Core
 pub mod Lengths
 pub mod Making

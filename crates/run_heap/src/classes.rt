@@ -4,7 +4,7 @@ ghost use Rattle.turk_base.specs.Cells.{decimal_of, digits_on, class_of, index, 
 ghost use Rattle.turk_base.specs.Conversions.{number_in};
 ghost use Rattle.value_cells.specs.Held.{Key};
 ghost use Rattle.value_cells.specs.Seen.{Naming, val_in};
-ghost use Rattle.run_heap.specs.Lengths.{NumberIs, PrimitiveIs, class_in, AllFrom};
+ghost use Rattle.run_heap.specs.Lengths.{NumberIs, PrimitiveIs, class_in, length_or_none, AllFrom};
 
 use convert_rules::{Prim, Reading, reading};
 use std::alloc::Global;
@@ -100,6 +100,18 @@ fn is_lower(at: u32, key: &Units) -> bool
     }
 }
 
+// the same, at once where all have a higher index
+fn place_of(keys: &[Units], at: u32, lowest: u32) -> usize
+    requires { AllFrom lowest keys.now }
+    ensures within { result ≤ length keys.now }
+    ensures place { (k : Key) → class_of k ≡ index at → insert keys.now result k ≡ put_down k keys.now }
+{
+    if at < lowest {
+        return keys.len();
+    }
+    place_down(keys, at)
+}
+
 /// Puts an element's key before those of lower index. All that are there have at least the index
 /// `lowest`, so that where the elements come with falling indexes the list isn't looked through.
 /// After NoMemory nothing changed.
@@ -114,15 +126,12 @@ pub fn add_down(
     ensures ok { OnOk result (keys.new.items ≡ put_down key keys.old.items) }
     ensures err { OnErr result (keys.new.items ≡ keys.old.items) }
 {
-    let place = if at < lowest {
-        keys.len()
-    } else {
-        place_down(keys.as_slice(), at)
-    };
+    let place = place_of(keys.as_slice(), at, lowest);
     match keys.insert(place, key) {
-        Ok(()) => Ok(()),
-        Err(_) => Err(NoMemory),
+        Ok(()) => return Ok(()),
+        Err(_) => {}
     }
+    Err(NoMemory)
 }
 
 // the primitive that a value is, None for an object
@@ -151,5 +160,17 @@ pub fn number_of(alloc: Global, value: &Value) -> Result<Whole, OpStop>
             Reading::Nan => Err(OpStop::NotWhole),
             Reading::Outside => Err(OpStop::NotWhole),
         },
+    }
+}
+
+/// The length that a number is, or None exactly below 0 and past 1,000,000.
+pub fn length_in(number: Whole) -> Option<u32>
+    ensures { result ≡ length_or_none number }
+{
+    let number = number.get();
+    if number < 0 || number > 1_000_000 {
+        None
+    } else {
+        Some(number as u32)
     }
 }

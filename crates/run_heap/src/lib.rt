@@ -8,6 +8,7 @@ use turk_base::Path;
 use value_cells::Cells;
 
 mod accesses;
+mod begin;
 mod classes;
 mod making;
 mod puts;

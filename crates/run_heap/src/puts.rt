@@ -14,7 +14,7 @@ ghost use Rattle.run_heap.specs.Works.{Works};
 
 use crate::RunHeap;
 use crate::accesses::is_length;
-use crate::classes::{KeyClass, class, number_of};
+use crate::classes::{KeyClass, class, length_in, number_of};
 use turk_base::{Units, Whole};
 use value_cells::{CellKind, OpStop, Value};
 
@@ -39,11 +39,10 @@ impl RunHeap {
         ensures rests { Rests self.old self.new }
         ensures count { count self.new ≡ count self.old }
     {
-        let number = length.get();
-        if number < 0 || number > 1_000_000 {
+        let Some(number) = length_in(length) else {
             return Err(OpStop::TooLong);
-        }
-        self.trim(cell, number as u32)?;
+        };
+        self.trim(cell, number)?;
         self.set(cell, key, Value::Number(length))
     }
 
