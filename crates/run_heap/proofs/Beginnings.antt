@@ -17,14 +17,14 @@ use Rattle.value_cells.specs.declared.CellKind.{CellKind}
 use Rattle.value_cells.specs.declared.CellKind.TheVariants.{Frame, Plain, Array, Function, BuiltIn}
 use Rattle.value_cells.specs.Held.{Cell, Held, Key, Props, props_at, names_of, kinds_of, key_eq, own, with_props, IsWhole}
 use Rattle.value_cells.specs.Seen.{Naming, Fits, Grows, kind_in}
-use Rattle.value_cells.proofs.Lists.{pushed, names-with}
+use Rattle.value_cells.proofs.Lists.{pushed, names-with, count-with}
 use Rattle.slot_watch.specs.Slots.{Slots}
 use Rattle.slot_watch.specs.Named.{cell_number, number_of_cell, TellsApart, renamed_all, renamed_verdict, by_names}
 use Rattle.slot_watch.specs.Within.{Holds, Each, InVerdict, CellsWithin}
 use Rattle.run_heap.specs.declared.Place.{Place}
 use Rattle.run_heap.specs.Core.{Core, names_in}
 use Rattle.run_heap.specs.Begins.{at_root, error_cells, first_cells, first_names, AreCounted, Begins}
-use Rattle.run_heap.specs.Placed.{placed, table, known_of, props_of, props_in, chain_of}
+use Rattle.run_heap.specs.Placed.{placed, table, known_one, known_of, props_of, props_in, chain_of}
 use Rattle.run_heap.specs.Whole.{IsCore}
 use Rattle.run_heap.proofs.Tables.{tells, known_here, props_here}
 use Rattle.run_heap.proofs.Watches.{pick_no}
@@ -38,6 +38,12 @@ counted_fresh cells h n s i e = let w = slice_get_within (names_of cells) i n e 
 
 pub counted_with : (cells : List Cell) (i : ℕ) (ps : Props) → AreCounted cells → AreCounted (with_props cells i ps)
 counted_with cells i ps h j n e = h j n (ap (λ l. slice_get l j) (sym (names-with cells i ps)) ∙ e)
+
+pub counted_made : (old new : List Cell) (c : Cell) → new ≡ old ++ c ∷ [] → AreCounted old → c.name.number ≡ length old → AreCounted new
+counted_made old new c e h n = subst AreCounted (sym e) (counted_push old c h n)
+
+pub counted_same : (old new : List Cell) (i : ℕ) (ps : Props) → new ≡ with_props old i ps → AreCounted old → AreCounted new
+counted_same old new i ps e h = subst AreCounted (sym e) (counted_with old i ps h)
 
 -- ---- an error and its prototype
 
@@ -100,6 +106,9 @@ module _ (os c1 c2 : List Cell) (which : ℕ) (parent : Option ℕ) (f p : ℕ) 
         ∙ ap (λ ps. with_props (os ++ first ∷ second ∷ []) (length os) (ps ++ (prototype_key, Object (suc (length os))) ∷ [])) (at_mid os first (second ∷ []))
         ∙ with_mid os first (second ∷ []) ((prototype_key, Object (suc (length os))) ∷ [])
 
+    pub second_there_3 : p < length c3
+    second_there_3 = let l = ap length e3 ∙ count-with c2 f (props_at c2 f ++ (prototype_key, Object p) ∷ []) in let h = second_there in omega (arith, l, h)
+
     pub second_fresh : (k : Key) → own c3 p k ≡ None
     second_fresh k = (λ i. own (three i) (at_p i) k) ∙ ap (lookup (key_eq k)) (at_next os first_made second)
 
@@ -112,6 +121,9 @@ module _ (os c1 c2 : List Cell) (which : ℕ) (parent : Option ℕ) (f p : ℕ) 
           e4 ∙ (λ i. with_props (three i) (at_p i) (props_at (three i) (at_p i) ++ (codes "name", Text name) ∷ []))
           ∙ ap (λ ps. with_props (os ++ first_made ∷ second ∷ []) (suc (length os)) (ps ++ (codes "name", Text name) ∷ [])) (at_next os first_made second)
           ∙ with_next os first_made second ((codes "name", Text name) ∷ [])
+
+      pub second_there_4 : p < length c4
+      second_there_4 = let l = ap length e4 ∙ count-with c3 p (props_at c3 p ++ (codes "name", Text name) ∷ []) in let h = second_there_3 in omega (arith, l, h)
 
       pub message_fresh : own c4 p (codes "message") ≡ None
       message_fresh = (λ i. own (four i) (at_p i) (codes "message")) ∙ ap (lookup (key_eq (codes "message"))) (at_next os first_made named)
@@ -136,7 +148,7 @@ at_all P (m ∷ l) h (suc i) n e = at_all P l h.1 i n e
 
 small : (i : ℕ) (n : Name) → slice_get first_names i ≡ Some n → cell_number n < 7
 unfolding AllOf
-small = at_all (λ n. cell_number n < 7) first_names (omega arith, omega arith, omega arith, omega arith, omega arith, omega arith, omega arith, tt)
+small = at_all (λ n. cell_number n < 7) first_names (omega arith, (omega arith, (omega arith, (omega arith, (omega arith, (omega arith, (omega arith, tt)))))))
 
 number_in : Name → ℕ
 number_in (cell s n) = n
@@ -184,8 +196,8 @@ module _ (nu : Naming) (fits : Fits nu first_names) (whole : IsWhole first_cells
   known_at (cell root (suc (suc (suc (suc zero))))) = via 4 (omega arith) (BuiltIn 15) refl
   known_at (cell root (suc (suc (suc (suc (suc zero)))))) = via 5 (omega arith) (Plain (Some 1)) refl ∙ ap error_kind (is 1 (omega arith))
   known_at (cell root (suc (suc (suc (suc (suc (suc zero))))))) = via 6 (omega arith) (BuiltIn 12) refl
-  known_at (cell root (suc (suc (suc (suc (suc (suc (suc n)))))))) = table_far nu _ None (cell root (suc (suc (suc (suc (suc (suc (suc n)))))))) 7 (past_all n)
-  known_at (cell (sub j p) n) = table_far nu _ None (cell (sub j p) n) 7 (elsewhere j p n)
+  known_at (cell root (suc (suc (suc (suc (suc (suc (suc n)))))))) = table_far nu (λ i. known_one nu (kinds_of first_cells) i (slice_get (kinds_of first_cells) i)) None (cell root (suc (suc (suc (suc (suc (suc (suc n)))))))) 7 (past_all n)
+  known_at (cell (sub j p) n) = table_far nu (λ i. known_one nu (kinds_of first_cells) i (slice_get (kinds_of first_cells) i)) None (cell (sub j p) n) 7 (elsewhere j p n)
 
   abbrev error_of : Name → List Property
   error_of m = property prototype_key (model.Object m) ∷ []
@@ -198,8 +210,8 @@ module _ (nu : Naming) (fits : Fits nu first_names) (whole : IsWhole first_cells
   props_at_name (cell root (suc (suc (suc (suc zero))))) = held_by 4 (omega arith) ∙ ap error_of (is 5 (omega arith))
   props_at_name (cell root (suc (suc (suc (suc (suc zero)))))) = held_by 5 (omega arith)
   props_at_name (cell root (suc (suc (suc (suc (suc (suc zero))))))) = held_by 6 (omega arith)
-  props_at_name (cell root (suc (suc (suc (suc (suc (suc (suc n)))))))) = table_far nu _ [] (cell root (suc (suc (suc (suc (suc (suc (suc n)))))))) 7 (past_all n)
-  props_at_name (cell (sub j p) n) = table_far nu _ [] (cell (sub j p) n) 7 (elsewhere j p n)
+  props_at_name (cell root (suc (suc (suc (suc (suc (suc (suc n)))))))) = table_far nu (λ i. props_in nu (props_at first_cells i)) [] (cell root (suc (suc (suc (suc (suc (suc (suc n)))))))) 7 (past_all n)
+  props_at_name (cell (sub j p) n) = table_far nu (λ i. props_in nu (props_at first_cells i)) [] (cell (sub j p) n) 7 (elsewhere j p n)
 
 -- the heap with these cells
 module _ (cells : Held) (slots : Slots) (now : cells.now ≡ first_cells) (cell_marks : cells.marks ≡ []) (opened : slots.current.opened ≡ []) (verdict : verdict_of slots.current.found ≡ independent) (slot_marks : slots.marks ≡ []) (left : ℕ) where

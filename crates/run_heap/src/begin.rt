@@ -36,7 +36,8 @@ fn add_cell(alloc: Global, cells: &mut Cells, kind: CellKind) -> Result<u32, NoM
         scope: Path::new(alloc),
         number: cells.count() as u32,
     };
-    cells.make(name, kind)
+    let cell = cells.make(name, kind)?;
+    Ok(cell)
 }
 
 // a property of a cell, last
@@ -89,7 +90,8 @@ fn add_error(
         prototype,
         MESSAGE.as_slice(),
         Value::Text(Units::new(alloc)),
-    )
+    )?;
+    Ok(())
 }
 
 // the built-in cells
