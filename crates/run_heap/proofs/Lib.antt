@@ -1,0 +1,14 @@
+pub mod Accesses_facts
+pub mod Acts
+pub mod Beginnings
+pub mod Chains
+pub mod Index_keys
+pub mod Keys
+pub mod Look
+pub mod Made
+pub mod Putting
+pub mod Shorter
+pub mod Tables
+pub mod Turn
+pub mod Watches
+pub mod Whole

@@ -1,0 +1,67 @@
+//! The heap of a run: cells by numbers, with the touches and the charges of each access.
+#![tactic(auto)]
+
+use slot_watch::SlotWatch;
+use std::alloc::Global;
+use std::marker::Model;
+use turk_base::Path;
+use value_cells::Cells;
+
+mod accesses;
+mod begin;
+mod classes;
+mod making;
+mod puts;
+mod steps;
+mod trims;
+
+/// The scope that runs or one around it: its path, the branch that holds it, and how many cells
+/// were made in it.
+#[derive(Drop)]
+pub struct Place {
+    pub path: Path,
+    pub branch: Path,
+    pub made: u64,
+}
+
+/// Cells with their properties, the watch over their slots, the scopes that are open, and the fuel
+/// left. It can be taken back to what it was when a scope was entered, but for the fuel.
+///
+/// Contracts see these parts, and say of each call which steps of the meaning it does (`Works`),
+/// whatever the heap stands in. After want of memory the scopes are as they were, and nothing else
+/// is known.
+#[derive(Drop)]
+pub struct RunHeap {
+    alloc: Global,
+    cells: Cells,
+    slots: SlotWatch,
+    place: Place,
+    outer: Vec<Place>,
+    left: u64,
+}
+
+impl Model for RunHeap {
+    ghost use Rattle.run_heap.specs.Core.{Core};
+
+    ghost Value = { Core };
+
+    ghost use Rattle.run_heap.specs.Stored.{core_of, IsKept};
+
+    ghost view = { core_of };
+
+    ghost invariant = { IsKept };
+}
+
+/// An open scope of a RunHeap. Contracts see how many scopes were around it.
+#[derive(Drop)]
+pub struct Opened {
+    depth: usize,
+}
+
+impl Model for Opened {
+    ghost use Rattle.std.specs.Prelude.{ℕ};
+
+    ghost Value = { ℕ };
+
+    ghost view = { λ o. o.depth };
+}
