@@ -2,6 +2,7 @@
 use Rattle.std.specs.Prelude.{◌≡◌, ◌≢◌, ℕ, max, ◌+◌, Bool, true, false, List, [], ◌∷◌, ◌++◌, Result, Ok, Err, Option, Some, None, ◌&&◌, ◌≤◌, IfOk, length}
 use Rattle.std.specs.Borrow.{Bor}
 use Rattle.js_lexer.specs.declared.Token.{Token}
+use Rattle.js_lexer.specs.declared.Mark.{Mark}
 use Rattle.js_lexer.specs.declared.Mark.TheVariants as m
 use Rattle.js_tree.specs.declared.Expr as expr
 use Rattle.js_tree.specs.declared.Case as clause
@@ -40,6 +41,26 @@ pub record Stood (b k : ℕ) (ts rest : List Token) : Type 0 where
 
 pub record NotStood (b k : ℕ) (ts : List Token) (e : Stop) : Type 0 where
   pub row : (n : Symbol) (h : ℕ) (rule : Rule n) → Has n b (node k rule) ts h (Err e)
+
+-- an expression, so much deeper, and what closes it
+abbrev pub closed_by : {n : Symbol} → Mark → (expr.Expr → Rule n) → Rule n
+closed_by close rule = read 1 (Expr false) (λ v _. expect close (rule v.expr))
+
+pub record TookClosed (close : Mark) (b : ℕ) (ts : List Token) (value : expr.Expr) (height : ℕ) (rest : List Token) : Type 0 where
+  pub row : (n : Symbol) (h : ℕ) (rule : expr.Expr → Rule n) (o : Outcome n) → Has n b (rule value) rest (max h height) o → Has n b (closed_by close rule) ts h o
+
+pub record MissesClosed (close : Mark) (b : ℕ) (ts : List Token) (e : Stop) : Type 0 where
+  pub row : (n : Symbol) (h : ℕ) (rule : expr.Expr → Rule n) → Has n b (closed_by close rule) ts h (Err e)
+
+-- the same, where the expression may be left out
+abbrev pub maybe_closed : {n : Symbol} → Mark → (Option expr.Expr → Rule n) → Rule n
+maybe_closed close rule = peek (λ t. either (is close t) (eat (rule None)) (closed_by close (λ value. rule (Some value))))
+
+pub record TookOptional (close : Mark) (b : ℕ) (ts : List Token) (value : Option expr.Expr) (height : ℕ) (rest : List Token) : Type 0 where
+  pub row : (n : Symbol) (h : ℕ) (rule : Option expr.Expr → Rule n) (o : Outcome n) → Has n b (rule value) rest (max h height) o → Has n b (maybe_closed close rule) ts h o
+
+pub record MissesOptional (close : Mark) (b : ℕ) (ts : List Token) (e : Stop) : Type 0 where
+  pub row : (n : Symbol) (h : ℕ) (rule : Option expr.Expr → Rule n) → Has n b (maybe_closed close rule) ts h (Err e)
 
 -- an expression in parentheses
 pub record TookParentheses (b : ℕ) (ts : List Token) (value : expr.Expr) (height : ℕ) (rest : List Token) : Type 0 where
@@ -98,10 +119,13 @@ pub record MissesBody (c : Context) (b : ℕ) (ts : List Token) (e : Stop) : Typ
 -- ---- rests of rows
 
 -- an expression first in the head of `for`
-abbrev pub for_value_rule : {c : Context} → Rule (Statement c)
-for_value_rule = read 1 (Expr true) (λ v _. peek (λ t. either (is_word w.In t && target v)
+abbrev pub for_valued_rule : {c : Context} → Operand → Rule (Statement c)
+for_valued_rule v = peek (λ t. either (is_word w.In t && target v)
     (eat (for_in (over.Target v.expr)))
-    (expect m.Semicolon (for_test (from.Expr v.expr)))))
+    (expect m.Semicolon (for_test (from.Expr v.expr))))
+
+abbrev pub for_value_rule : {c : Context} → Rule (Statement c)
+for_value_rule = read 1 (Expr true) (λ v _. for_valued_rule v)
 
 -- after the first name that `var` declares there: a semicolon, a comma, and a value
 abbrev pub for_alone_rule : {c : Context} → Units → Rule (Statement c)
@@ -110,10 +134,14 @@ for_alone_rule units = for_test (from.Var (decl_of units None ∷ []))
 abbrev pub for_list_rule : {c : Context} → Units → Rule (Statement c)
 for_list_rule units = for_decls (decl_of units None ∷ [])
 
+abbrev pub for_declared_rule : {c : Context} → List declared.Variable → Rule (Statement c)
+for_declared_rule all = expect m.Semicolon (for_test (from.Var all))
+
+abbrev pub for_more_rule : {c : Context} → List declared.Variable → Rule (Statement c)
+for_more_rule all = peek (λ u. either (is m.Comma u) (eat (for_decls all)) (for_declared_rule all))
+
 abbrev pub for_assigned_rule : {c : Context} → Units → Rule (Statement c)
-for_assigned_rule units = read 2 (Assign true) (λ v _. peek (λ u. either (is m.Comma u)
-    (eat (for_decls (decl_of units (Some v.expr) ∷ [])))
-    (expect m.Semicolon (for_test (from.Var (decl_of units (Some v.expr) ∷ []))))))
+for_assigned_rule units = read 2 (Assign true) (λ v _. for_more_rule (decl_of units (Some v.expr) ∷ []))
 
 -- after `catch`
 abbrev pub catch_rule : {c : Context} → Stmt → Rule (Statement c)

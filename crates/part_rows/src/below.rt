@@ -6,10 +6,10 @@ ghost use Rattle.script_grammar.specs.Rules.Symbol.{Assign, Elements, Expr, Stat
 ghost use Rattle.part_rows.specs.Lines.{Exprs};
 
 use js_lexer::Token;
+use js_tree::{Script, Stmt};
 use script_grammar::classes::{Around, Operand};
 use script_grammar::steps::Read;
 use script_grammar::stop::Stop;
-use js_tree::{Script, Stmt};
 use std::alloc::Global;
 
 /// The functions that read what stands at this depth or deeper.

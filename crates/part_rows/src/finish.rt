@@ -9,14 +9,15 @@ ghost use Rattle.part_rows.specs.Lines.{Begun, Stood, NotStood, Finished, Unfini
 ghost use Rattle.script_grammar.specs.declared.stop.Stop.TheVariants.{Memory};
 
 use js_lexer::{Mark, Reserved, Token};
+use js_tree::{Expr, Variable};
 use script_grammar::Form;
 use script_grammar::classes::{Around, Operand};
 use script_grammar::classify::{closes, is, is_name, is_word, labels};
 use script_grammar::steps::{LIMIT, first, refused};
 use script_grammar::stop::Stop;
-use js_tree::{Expr, Variable};
 use sqlite_items::Items;
 use std::alloc::Global;
+use tree_drops::variables_with;
 
 /// Whether the token is a semicolon on the same line.
 fn on_line(token: &Token) -> bool
@@ -129,7 +130,5 @@ pub fn ends_identifier<'a>(expr: &Expr, tokens: &'a [Token]) -> Result<&'a [Toke
 pub fn alone(alloc: Global, one: Variable) -> Result<Items<Variable>, Stop>
     ensures { MatchResult result (λ all. all ≡ one ∷ []) (λ e. e ≡ Memory) }
 {
-    let mut all = Items::new(alloc);
-    all.push(one)?;
-    Ok(all)
+    Ok(variables_with(Items::new(alloc), one)?)
 }

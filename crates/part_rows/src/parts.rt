@@ -4,19 +4,72 @@ ghost use Rattle.std.specs.Prelude.{◌≢◌, ◌≤◌, ◌+◌, false, None, 
 ghost use Rattle.script_grammar.specs.Meets.{Assigns, Bodies, Ones, Meets, TookFunction, MissesFunction};
 ghost use Rattle.script_grammar.specs.Rules.Symbol.{Expr, Statements, Block, Decls};
 ghost use Rattle.script_grammar.specs.declared.stop.Stop.TheVariants.{Memory};
-ghost use Rattle.part_rows.specs.Lines.{Exprs, TookParentheses, MissesParentheses, TookVariable, MissesVariable};
+ghost use Rattle.part_rows.specs.Lines.{Exprs, TookClosed, MissesClosed, TookOptional, MissesOptional, TookParentheses, MissesParentheses, TookVariable, MissesVariable};
 
 use crate::below::Below;
 use js_lexer::{Mark, Token};
+use js_tree::{Expr, Script, Stmt, Variable};
 use script_grammar::classes::{Around, Operand};
 use script_grammar::classify::{is, stops};
 use script_grammar::steps::{LIMIT, Read, expect, first, name, parameters, refused};
 use script_grammar::stop::Stop;
-use js_tree::{Expr, Script, Stmt, Variable};
 use sqlite_items::Items;
 use std::alloc::Global;
-use tree_makers::stmts;
+use tree_drops::{expr, script, stmts, stmts_with, variables, variables_with};
+use tree_makers::stmts as makers;
 use turk_base::Units;
+
+/// An expression, one deeper, and the token that closes it.
+pub fn enclosed<
+    'a,
+    E: Fn(Global, bool, u32, &[Token]) -> Result<(Operand, u32, &[Token]), Stop>,
+    F: Fn(Global, bool, u32, &[Token]) -> Result<(Operand, u32, &[Token]), Stop>,
+    G: Fn(Global, u32, &[Token]) -> Result<(Script, u32, &[Token]), Stop>,
+    H: Fn(Global, Around, u32, &[Token]) -> Result<(Stmt, u32, &[Token]), Stop>,
+>(below: &Below<E, F, G, H>, close: Mark, base: u32, tokens: &'a [Token]) -> Read<'a, Expr>
+    requires exprs { Exprs below.now.depth (E.pre below.now.expr) (E.post below.now.expr) }
+    requires assigns { Assigns below.now.depth (F.pre below.now.assign) (F.post below.now.assign) }
+    requires bodies { Bodies below.now.depth (G.pre below.now.body) (G.post below.now.body) }
+    requires ones { Ones below.now.depth (H.pre below.now.statement) (H.post below.now.statement) }
+    requires depth { below.now.depth ≤ base + 1 }
+    requires base { base + 1 ≤ 200 }
+    ensures takes { MatchResult result (λ p. TookClosed close base tokens.now p.0 p.1 p.2.now) (λ e. e ≢ Memory → MissesClosed close base tokens.now e) }
+    ensures small { IfOk result (λ r. base + r.1 ≤ 200) }
+{
+    let (value, height, rest) = below.expression(false, base + 1, tokens)?;
+    match expect(close, rest) {
+        Ok(after) => Ok((value.expr, height + 1, after)),
+        Err(stop) => {
+            expr(value.expr);
+            Err(stop)
+        }
+    }
+}
+
+/// An expression that may be left out, one deeper, and the token that closes it.
+pub fn optional<
+    'a,
+    E: Fn(Global, bool, u32, &[Token]) -> Result<(Operand, u32, &[Token]), Stop>,
+    F: Fn(Global, bool, u32, &[Token]) -> Result<(Operand, u32, &[Token]), Stop>,
+    G: Fn(Global, u32, &[Token]) -> Result<(Script, u32, &[Token]), Stop>,
+    H: Fn(Global, Around, u32, &[Token]) -> Result<(Stmt, u32, &[Token]), Stop>,
+>(below: &Below<E, F, G, H>, close: Mark, base: u32, tokens: &'a [Token]) -> Read<'a, Option<Expr>>
+    requires exprs { Exprs below.now.depth (E.pre below.now.expr) (E.post below.now.expr) }
+    requires assigns { Assigns below.now.depth (F.pre below.now.assign) (F.post below.now.assign) }
+    requires bodies { Bodies below.now.depth (G.pre below.now.body) (G.post below.now.body) }
+    requires ones { Ones below.now.depth (H.pre below.now.statement) (H.post below.now.statement) }
+    requires depth { below.now.depth ≤ base + 1 }
+    requires base { base + 1 ≤ 200 }
+    ensures takes { MatchResult result (λ p. TookOptional close base tokens.now p.0 p.1 p.2.now) (λ e. e ≢ Memory → MissesOptional close base tokens.now e) }
+    ensures small { IfOk result (λ r. base + r.1 ≤ 200) }
+{
+    let (token, after) = first(tokens)?;
+    if is(close, token) {
+        return Ok((None, 0, after));
+    }
+    let (value, height, rest) = enclosed(below, close, base, tokens)?;
+    Ok((Some(value), height, rest))
+}
 
 /// An expression in parentheses, one deeper.
 pub fn in_parentheses<
@@ -36,9 +89,7 @@ pub fn in_parentheses<
     ensures small { IfOk result (λ r. base + r.1 ≤ 200) }
 {
     let open = expect(Mark::OpenParen, tokens)?;
-    let (value, height, rest) = below.expression(false, base + 1, open)?;
-    let closed = expect(Mark::CloseParen, rest)?;
-    Ok((value.expr, height + 1, closed))
+    enclosed(below, Mark::CloseParen, base, open)
 }
 
 /// Statements, up to what ends them.
@@ -67,14 +118,28 @@ pub fn statements<
     let mut tall = 0;
     let mut left = tokens;
     loop {
-        let (token, _) = first(left)?;
-        if stops(token) {
-            return Ok((all, tall, left));
+        match first(left) {
+            Ok((token, _)) => {
+                if stops(token) {
+                    return Ok((all, tall, left));
+                }
+                match below.one(around, base, left) {
+                    Ok((one, height, rest)) => {
+                        all = stmts_with(all, one)?;
+                        tall = tall.max(height);
+                        left = rest;
+                    }
+                    Err(stop) => {
+                        stmts(all);
+                        return Err(stop);
+                    }
+                }
+            }
+            Err(stop) => {
+                stmts(all);
+                return Err(stop);
+            }
         }
-        let (one, height, rest) = below.one(around, base, left)?;
-        all.push(one)?;
-        tall = tall.max(height);
-        left = rest;
     }
 }
 
@@ -103,8 +168,13 @@ pub fn block<
         return Err(Stop::Nesting);
     }
     let (all, height, rest) = statements(below, around, base + 1, open)?;
-    let closed = expect(Mark::CloseBrace, rest)?;
-    Ok((stmts::block(all), height + 1, closed))
+    match expect(Mark::CloseBrace, rest) {
+        Ok(closed) => Ok((makers::block(all), height + 1, closed)),
+        Err(stop) => {
+            stmts(all);
+            Err(stop)
+        }
+    }
 }
 
 /// A name of a declaration, with its value where it has one.
@@ -127,10 +197,10 @@ pub fn variable<
     let (units, named) = name(below.alloc, tokens)?;
     let (token, after) = first(named)?;
     if !is(Mark::Assign, token) {
-        return Ok((stmts::variable(units, None), 0, named));
+        return Ok((makers::variable(units, None), 0, named));
     }
     let (value, height, rest) = below.assignment(no_in, base, after)?;
-    Ok((stmts::variable(units, Some(value.expr)), height, rest))
+    Ok((makers::variable(units, Some(value.expr)), height, rest))
 }
 
 /// The declarations of `var`, after some.
@@ -160,14 +230,28 @@ pub fn declarations<
     let mut tall = 0;
     let mut left = tokens;
     loop {
-        let (one, height, rest) = variable(below, no_in, base, left)?;
-        all.push(one)?;
-        tall = tall.max(height);
-        let (token, after) = first(rest)?;
-        if !is(Mark::Comma, token) {
-            return Ok((all, tall, rest));
+        match variable(below, no_in, base, left) {
+            Ok((one, height, rest)) => {
+                all = variables_with(all, one)?;
+                tall = tall.max(height);
+                match first(rest) {
+                    Ok((token, after)) => {
+                        if !is(Mark::Comma, token) {
+                            return Ok((all, tall, rest));
+                        }
+                        left = after;
+                    }
+                    Err(stop) => {
+                        variables(all);
+                        return Err(stop);
+                    }
+                }
+            }
+            Err(stop) => {
+                variables(all);
+                return Err(stop);
+            }
         }
-        left = after;
     }
 }
 
@@ -195,6 +279,11 @@ pub fn function<
     let (names, named) = parameters(below.alloc, tokens)?;
     let open = expect(Mark::OpenBrace, named)?;
     let (body, height, rest) = below.inner(base + 1, open)?;
-    let closed = expect(Mark::CloseBrace, rest)?;
-    Ok((names, body, height + 1, closed))
+    match expect(Mark::CloseBrace, rest) {
+        Ok(closed) => Ok((names, body, height + 1, closed)),
+        Err(stop) => {
+            script(body);
+            Err(stop)
+        }
+    }
 }

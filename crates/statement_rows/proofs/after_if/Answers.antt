@@ -1,21 +1,27 @@
-use Rattle.std.proofs.Common.{sym, ◌∙◌, arith, refl}
-use Rattle.script_grammar.proofs.Along.{row, whole, gives, refuses, peeks, peeks_end, eats, passes, fails, yes, no, expects, misses, expects_word, misses_word, handed, begins_with, begins_too_deep}
-use Rattle.part_rows.proofs.Joints.{refuses_end, onward, ended, halted, jumped, ended_name}
-use Rattle.script_grammar.proofs.Tokens.{live_word}
+use Rattle.std.proofs.Common.{◌≡◌, ◌≢◌, sym, ◌∙◌, arith, refl, Some, None, true, false, [], ℕ, max}
 use Rattle.js_lexer.specs.declared.Reserved.TheVariants as w
+use Rattle.js_tree.specs.declared.Expr as expr
+use Rattle.script_grammar.specs.Grammar.{statement_as, after_if, after_return, after_throw, ends, ends_identifier, halts, jump, loop, in_parentheses}
+use Rattle.script_grammar.specs.Rules.{Rule}
+use Rattle.script_grammar.specs.Rules.Rule.{give, refuse, read, stand}
+use Rattle.script_grammar.specs.Rules.Symbol.{Decls, Expr, Statement}
+use Rattle.script_grammar.specs.Stmts as s
+use Rattle.script_grammar.specs.declared.classes.Start.TheVariants as start
+use Rattle.script_grammar.specs.declared.stop.Stop.TheVariants.{Memory}
+use Rattle.script_grammar.proofs.Along.{row, whole, gives, refuses, peeks, peeks_end, eats, passes, fails, yes, no, expects_word, misses_word, handed, handed_on, begins_with}
+use Rattle.script_grammar.proofs.Along as along
+use Rattle.script_grammar.proofs.Tokens.{live_word}
+use Rattle.part_rows.proofs.Joints.{refuses_end, onward, ended, halted, jumped, ended_name}
+use Rattle.statement_rows.specs.Rests.{do_rule, else_rule, second_rule, test_rule, TookTest, MissesTest}
+use Rattle.statement_rows.proofs.Endings.{unended, unhalted, unjumped, unended_name, within, within_err, tested, opened_deep, begins_end}
 use Rattle.statement_rows.proofs.after_if.Goals as goal
 
-pub returns-in_err-yes-clause-meets : goal.returns-in_err-yes-clause-meets
-returns-in_err-yes-clause-meets g c = handed _ _ _ _ c.from_residual.result c.from_residual.ensures.1 (λ not. fails (c.in_err-yes.ensures.meets not))
+pub returns-in_err-made-in-Ok-clause-meets : goal.returns-in_err-made-in-Ok-clause-meets
+returns-in_err-made-in-Ok-clause-meets g c = handed (Statement c.args.around) c.args.base (after_if c.args.test) c.args.tokens.now c.from_residual.result c.from_residual.ensures.1
+    (λ not. passes c.in-Ok.ensures.meets (whole (c.in_err-made-in-Ok.ensures.meets not)))
 
-pub returns-in_err-token-clause-meets : goal.returns-in_err-token-clause-meets
-returns-in_err-token-clause-meets g c = handed _ _ _ _ c.from_residual-in_err-token.result c.from_residual-in_err-token.ensures.1 (λ not. passes c.in_ok-yes.ensures.meets (peeks_end c.in_err-token.ensures.0 c.in_err-token.ensures.1))
+pub returns-in-Ok-clause-meets : goal.returns-in-Ok-clause-meets
+returns-in-Ok-clause-meets g c = row (passes c.in-Ok.ensures.meets (onward (omega arith) c.in_ok-made-in-Ok.ensures.meets))
 
-pub returns-in_err-no-clause-meets : goal.returns-in_err-no-clause-meets
-returns-in_err-no-clause-meets g c = handed _ _ _ _ c.from_residual-in_err-no.result c.from_residual-in_err-no.ensures.1 (λ not. passes c.in_ok-yes.ensures.meets (peeks c.in_ok-token.ensures (yes _ (sym c.is_word.ensures ∙ c.if-not-is_word.false) (eats (live_word w.Else _ (sym c.is_word.ensures ∙ c.if-not-is_word.false)) c.in_ok-token.ensures (fails (c.in_err-no.ensures.meets not))))))
-
-pub returns-then-not-is_word-clause-meets : goal.returns-then-not-is_word-clause-meets
-returns-then-not-is_word-clause-meets g c = row (passes c.in_ok-yes.ensures.meets (peeks c.in_ok-token.ensures (no _ (sym c.is_word.ensures ∙ c.if-not-is_word.true) (gives c.in_ok-made.ensures (omega arith)))))
-
-pub returns-clause-meets : goal.returns-clause-meets
-returns-clause-meets g c = row (passes c.in_ok-yes.ensures.meets (peeks c.in_ok-token.ensures (yes _ (sym c.is_word.ensures ∙ c.if-not-is_word.false) (eats (live_word w.Else _ (sym c.is_word.ensures ∙ c.if-not-is_word.false)) c.in_ok-token.ensures (passes c.in_ok-no.ensures.meets (gives c.in_ok-made-2.ensures (omega arith)))))))
+pub returns-in-Err-clause-meets : goal.returns-in-Err-clause-meets
+returns-in-Err-clause-meets g c not = row (fails (c.in-Err.ensures.meets not))

@@ -1,22 +1,41 @@
-use Rattle.std.proofs.Common.{sym, ◌∙◌, arith, refl}
-use Rattle.script_grammar.proofs.Along.{row, whole, gives, refuses, peeks, peeks_end, eats, passes, fails, yes, no, expects, misses, expects_word, misses_word, handed, begins_with, begins_too_deep}
+use Rattle.std.proofs.Common.{◌≡◌, ◌≢◌, sym, ◌∙◌, arith, refl, Some, None, true, false, [], ℕ, max}
+use Rattle.js_lexer.specs.declared.Reserved.TheVariants as w
+use Rattle.js_tree.specs.declared.Expr as expr
+use Rattle.script_grammar.specs.Grammar.{statement_as, after_if, after_return, after_throw, ends, ends_identifier, halts, jump, loop, in_parentheses}
+use Rattle.script_grammar.specs.Rules.{Rule}
+use Rattle.script_grammar.specs.Rules.Rule.{give, refuse, read, stand}
+use Rattle.script_grammar.specs.Rules.Symbol.{Decls, Expr, Statement}
+use Rattle.script_grammar.specs.Stmts as s
+use Rattle.script_grammar.specs.declared.classes.Start.TheVariants as start
+use Rattle.script_grammar.specs.declared.stop.Stop.TheVariants.{Memory}
+use Rattle.script_grammar.proofs.Along.{row, whole, gives, refuses, peeks, peeks_end, eats, passes, fails, yes, no, expects_word, misses_word, handed, handed_on, begins_with}
+use Rattle.script_grammar.proofs.Along as along
+use Rattle.script_grammar.proofs.Tokens.{live_word}
 use Rattle.part_rows.proofs.Joints.{refuses_end, onward, ended, halted, jumped, ended_name}
+use Rattle.statement_rows.specs.Rests.{do_rule, else_rule, second_rule, test_rule, TookTest, MissesTest}
+use Rattle.statement_rows.proofs.Endings.{unended, unhalted, unjumped, unended_name, within, within_err, tested, opened_deep, begins_end}
 use Rattle.statement_rows.proofs.throw_statement.Goals as goal
 
+abbrev value : {c : _} → Rule (Statement c)
+value = read 1 (Expr false) (λ v _. ends (s.Throw v.expr))
+
 pub returns-in_err-stood-clause-meets : goal.returns-in_err-stood-clause-meets
-returns-in_err-stood-clause-meets g c = handed _ _ _ _ c.from_residual.result c.from_residual.ensures.1 (λ not. c.in_err-stood.ensures.stands.row _ _ _)
+returns-in_err-stood-clause-meets g c = handed (Statement c.args.around) c.args.base (statement_as c.args.around start.Throw) c.args.tokens.now c.from_residual.result c.from_residual.ensures.1
+    (λ not. c.in_err-stood.ensures.stands.row (Statement c.args.around) 0 (after_throw))
 
 pub returns-in_err-token-clause-meets : goal.returns-in_err-token-clause-meets
-returns-in_err-token-clause-meets g c = handed _ _ _ _ c.from_residual-in_err-token.result c.from_residual-in_err-token.ensures.1 (λ not. c.in_ok-stood.ensures.stands.row _ _ _ _ (peeks_end c.in_err-token.ensures.0 c.in_err-token.ensures.1))
-
-pub returns-in_err-value-clause-meets : goal.returns-in_err-value-clause-meets
-returns-in_err-value-clause-meets g c = handed _ _ _ _ c.from_residual-in_err-value.result c.from_residual-in_err-value.ensures.1 (λ not. c.in_ok-stood.ensures.stands.row _ _ _ _ (peeks c.in_ok-token.ensures (no _ c.if-after_newline.false (fails (c.in_err-value.ensures.meets not)))))
-
-pub returns-in_err-ended-clause-meets : goal.returns-in_err-ended-clause-meets
-returns-in_err-ended-clause-meets g c = handed _ _ _ _ c.from_residual-in_err-ended.result c.from_residual-in_err-ended.ensures.1 (λ not. c.in_ok-stood.ensures.stands.row _ _ _ _ (peeks c.in_ok-token.ensures (no _ c.if-after_newline.false (passes c.in_ok-value.ensures.meets (c.in_err-ended.ensures.row _ _ _ _)))))
+returns-in_err-token-clause-meets g c = handed (Statement c.args.around) c.args.base (statement_as c.args.around start.Throw) c.args.tokens.now c.from_residual-in_err-token.result c.from_residual-in_err-token.ensures.1
+    (λ not. c.in_ok-stood.ensures.stands.row (Statement c.args.around) 0 (after_throw) _ (peeks_end c.in_err-token.ensures.0 c.in_err-token.ensures.1))
 
 pub returns-then-after_newline-clause-meets : goal.returns-then-after_newline-clause-meets
-returns-then-after_newline-clause-meets g c = λ not. row (c.in_ok-stood.ensures.stands.row _ _ _ _ (peeks c.in_ok-token.ensures (yes _ c.if-after_newline.true (refuses c.in_ok-token.ensures c.refused.ensures))))
+returns-then-after_newline-clause-meets g c not = row (c.in_ok-stood.ensures.stands.row (Statement c.args.around) 0 (after_throw) _ (peeks c.in_ok-token.ensures (yes value c.if-after_newline.true (refuses c.in_ok-token.ensures c.refused.ensures))))
 
-pub returns-clause-meets : goal.returns-clause-meets
-returns-clause-meets g c = row (c.in_ok-stood.ensures.stands.row _ _ _ _ (peeks c.in_ok-token.ensures (no _ c.if-after_newline.false (passes c.in_ok-value.ensures.meets (ended c.throw.ensures (omega arith) c.in_ok-ended.ensures)))))
+pub returns-in_err-value-clause-meets : goal.returns-in_err-value-clause-meets
+returns-in_err-value-clause-meets g c = handed (Statement c.args.around) c.args.base (statement_as c.args.around start.Throw) c.args.tokens.now c.from_residual-in_err-value.result c.from_residual-in_err-value.ensures.1
+    (λ not. c.in_ok-stood.ensures.stands.row (Statement c.args.around) 0 (after_throw) _ (peeks c.in_ok-token.ensures (no (refuse None) c.if-after_newline.false (fails (c.in_err-value.ensures.meets not)))))
+
+pub returns-in-Ok-clause-meets : goal.returns-in-Ok-clause-meets
+returns-in-Ok-clause-meets g c = row (c.in_ok-stood.ensures.stands.row (Statement c.args.around) 0 (after_throw) _ (peeks c.in_ok-token.ensures (no (refuse None) c.if-after_newline.false (passes c.in_ok-value.ensures.meets (ended c.throw.ensures (omega arith) c.in-Ok.ensures)))))
+
+pub returns-in-Err-clause-meets : goal.returns-in-Err-clause-meets
+returns-in-Err-clause-meets g c not = row (c.in_ok-stood.ensures.stands.row (Statement c.args.around) 0 (after_throw) _ (peeks c.in_ok-token.ensures (no (refuse None) c.if-after_newline.false (passes c.in_ok-value.ensures.meets (unended (s.Throw _) c.in-Err.ensures)))))

@@ -1,16 +1,34 @@
-use Rattle.std.proofs.Common.{sym, ◌∙◌, arith, refl}
-use Rattle.script_grammar.proofs.Along.{row, whole, gives, refuses, peeks, peeks_end, eats, passes, fails, yes, no, expects, misses, expects_word, misses_word, handed, begins_with, begins_too_deep}
+use Rattle.std.proofs.Common.{◌≡◌, ◌≢◌, sym, ◌∙◌, arith, refl, Some, None, true, false, [], ℕ, max}
+use Rattle.js_lexer.specs.declared.Reserved.TheVariants as w
+use Rattle.js_tree.specs.declared.Expr as expr
+use Rattle.script_grammar.specs.Grammar.{statement_as, after_if, after_return, after_throw, ends, ends_identifier, halts, jump, loop, in_parentheses}
+use Rattle.script_grammar.specs.Rules.{Rule}
+use Rattle.script_grammar.specs.Rules.Rule.{give, refuse, read, stand}
+use Rattle.script_grammar.specs.Rules.Symbol.{Decls, Expr, Statement}
+use Rattle.script_grammar.specs.Stmts as s
+use Rattle.script_grammar.specs.declared.classes.Start.TheVariants as start
+use Rattle.script_grammar.specs.declared.stop.Stop.TheVariants.{Memory}
+use Rattle.script_grammar.proofs.Along.{row, whole, gives, refuses, peeks, peeks_end, eats, passes, fails, yes, no, expects_word, misses_word, handed, handed_on, begins_with}
+use Rattle.script_grammar.proofs.Along as along
+use Rattle.script_grammar.proofs.Tokens.{live_word}
 use Rattle.part_rows.proofs.Joints.{refuses_end, onward, ended, halted, jumped, ended_name}
+use Rattle.statement_rows.specs.Rests.{do_rule, else_rule, second_rule, test_rule, TookTest, MissesTest}
+use Rattle.statement_rows.proofs.Endings.{unended, unhalted, unjumped, unended_name, within, within_err, tested, opened_deep, begins_end}
 use Rattle.statement_rows.proofs.var_statement.Goals as goal
 
+abbrev names : {c : _} → Rule (Statement c)
+names = read 1 (Decls false []) (λ all _. ends (s.Var all))
+
 pub returns-in_err-stood-clause-meets : goal.returns-in_err-stood-clause-meets
-returns-in_err-stood-clause-meets g c = handed _ _ _ _ c.from_residual.result c.from_residual.ensures.1 (λ not. c.in_err-stood.ensures.stands.row _ _ _)
+returns-in_err-stood-clause-meets g c = handed (Statement c.args.around) c.args.base (statement_as c.args.around start.Var) c.args.tokens.now c.from_residual.result c.from_residual.ensures.1
+    (λ not. c.in_err-stood.ensures.stands.row (Statement c.args.around) 0 (names))
 
 pub returns-in_err-all-clause-meets : goal.returns-in_err-all-clause-meets
-returns-in_err-all-clause-meets g c = handed _ _ _ _ c.from_residual-in_err-all.result c.from_residual-in_err-all.ensures.1 (λ not. c.in_ok-stood.ensures.stands.row _ _ _ _ (fails (c.in_err-all.ensures.meets not)))
+returns-in_err-all-clause-meets g c = handed (Statement c.args.around) c.args.base (statement_as c.args.around start.Var) c.args.tokens.now c.from_residual-in_err-all.result c.from_residual-in_err-all.ensures.1
+    (λ not. c.in_ok-stood.ensures.stands.row (Statement c.args.around) 0 (names) _ (fails (c.in_err-all.ensures.meets not)))
 
-pub returns-in_err-ended-clause-meets : goal.returns-in_err-ended-clause-meets
-returns-in_err-ended-clause-meets g c = handed _ _ _ _ c.from_residual-in_err-ended.result c.from_residual-in_err-ended.ensures.1 (λ not. c.in_ok-stood.ensures.stands.row _ _ _ _ (passes c.in_ok-all.ensures.meets (c.in_err-ended.ensures.row _ _ _ _)))
+pub returns-in-Ok-clause-meets : goal.returns-in-Ok-clause-meets
+returns-in-Ok-clause-meets g c = row (c.in_ok-stood.ensures.stands.row (Statement c.args.around) 0 (names) _ (passes c.in_ok-all.ensures.meets (ended c.var.ensures (omega arith) c.in-Ok.ensures)))
 
-pub returns-clause-meets : goal.returns-clause-meets
-returns-clause-meets g c = row (c.in_ok-stood.ensures.stands.row _ _ _ _ (passes c.in_ok-all.ensures.meets (ended c.var.ensures (omega arith) c.in_ok-ended.ensures)))
+pub returns-in-Err-clause-meets : goal.returns-in-Err-clause-meets
+returns-in-Err-clause-meets g c not = row (c.in_ok-stood.ensures.stands.row (Statement c.args.around) 0 (names) _ (passes c.in_ok-all.ensures.meets (unended (s.Var _) c.in-Err.ensures)))

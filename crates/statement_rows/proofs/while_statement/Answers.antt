@@ -1,16 +1,34 @@
-use Rattle.std.proofs.Common.{sym, ◌∙◌, arith, refl}
-use Rattle.script_grammar.proofs.Along.{row, whole, gives, refuses, peeks, peeks_end, eats, passes, fails, yes, no, expects, misses, expects_word, misses_word, handed, begins_with, begins_too_deep}
+use Rattle.std.proofs.Common.{◌≡◌, ◌≢◌, sym, ◌∙◌, arith, refl, Some, None, true, false, [], ℕ, max}
+use Rattle.js_lexer.specs.declared.Reserved.TheVariants as w
+use Rattle.js_tree.specs.declared.Expr as expr
+use Rattle.script_grammar.specs.Grammar.{statement_as, after_if, after_return, after_throw, ends, ends_identifier, halts, jump, loop, in_parentheses}
+use Rattle.script_grammar.specs.Rules.{Rule}
+use Rattle.script_grammar.specs.Rules.Rule.{give, refuse, read, stand}
+use Rattle.script_grammar.specs.Rules.Symbol.{Decls, Expr, Statement}
+use Rattle.script_grammar.specs.Stmts as s
+use Rattle.script_grammar.specs.declared.classes.Start.TheVariants as start
+use Rattle.script_grammar.specs.declared.stop.Stop.TheVariants.{Memory}
+use Rattle.script_grammar.proofs.Along.{row, whole, gives, refuses, peeks, peeks_end, eats, passes, fails, yes, no, expects_word, misses_word, handed, handed_on, begins_with}
+use Rattle.script_grammar.proofs.Along as along
+use Rattle.script_grammar.proofs.Tokens.{live_word}
 use Rattle.part_rows.proofs.Joints.{refuses_end, onward, ended, halted, jumped, ended_name}
+use Rattle.statement_rows.specs.Rests.{do_rule, else_rule, second_rule, test_rule, TookTest, MissesTest}
+use Rattle.statement_rows.proofs.Endings.{unended, unhalted, unjumped, unended_name, within, within_err, tested, opened_deep, begins_end}
 use Rattle.statement_rows.proofs.while_statement.Goals as goal
 
+abbrev body : {c : _} → expr.Expr → Rule (Statement c)
+body {c} test = read 1 (Statement (loop c)) (λ one _. give (s.While test one))
+
 pub returns-in_err-stood-clause-meets : goal.returns-in_err-stood-clause-meets
-returns-in_err-stood-clause-meets g c = handed _ _ _ _ c.from_residual.result c.from_residual.ensures.1 (λ not. c.in_err-stood.ensures.stands.row _ _ _)
+returns-in_err-stood-clause-meets g c = handed (Statement c.args.around) c.args.base (statement_as c.args.around start.While) c.args.tokens.now c.from_residual.result c.from_residual.ensures.1
+    (λ not. c.in_err-stood.ensures.stands.row (Statement c.args.around) 0 (in_parentheses body))
 
 pub returns-in_err-test-clause-meets : goal.returns-in_err-test-clause-meets
-returns-in_err-test-clause-meets g c = handed _ _ _ _ c.from_residual-in_err-test.result c.from_residual-in_err-test.ensures.1 (λ not. c.in_ok-stood.ensures.stands.row _ _ _ _ ((c.in_err-test.ensures.takes not).row _ _ _))
+returns-in_err-test-clause-meets g c = handed (Statement c.args.around) c.args.base (statement_as c.args.around start.While) c.args.tokens.now c.from_residual-in_err-test.result c.from_residual-in_err-test.ensures.1
+    (λ not. c.in_ok-stood.ensures.stands.row (Statement c.args.around) 0 (in_parentheses body) _ ((c.in_err-test.ensures.takes not).row (Statement c.args.around) _ body))
 
-pub returns-in_err-body-clause-meets : goal.returns-in_err-body-clause-meets
-returns-in_err-body-clause-meets g c = handed _ _ _ _ c.from_residual-in_err-body.result c.from_residual-in_err-body.ensures.1 (λ not. c.in_ok-stood.ensures.stands.row _ _ _ _ (c.in_ok-test.ensures.takes.row _ _ _ _ (fails (c.in_err-body.ensures.meets not))))
+pub returns-in-Ok-clause-meets : goal.returns-in-Ok-clause-meets
+returns-in-Ok-clause-meets g c = row (c.in_ok-stood.ensures.stands.row (Statement c.args.around) 0 (in_parentheses body) _ (c.in_ok-test.ensures.takes.row (Statement c.args.around) _ body _ (passes (within c.looped.ensures c.in-Ok.ensures.meets) (gives c.in_ok-made-in-Ok.ensures (omega arith)))))
 
-pub returns-clause-meets : goal.returns-clause-meets
-returns-clause-meets g c = row (c.in_ok-stood.ensures.stands.row _ _ _ _ (c.in_ok-test.ensures.takes.row _ _ _ _ (passes c.in_ok-body.ensures.meets (gives c.in_ok-made.ensures (omega arith)))))
+pub returns-in-Err-clause-meets : goal.returns-in-Err-clause-meets
+returns-in-Err-clause-meets g c not = row (c.in_ok-stood.ensures.stands.row (Statement c.args.around) 0 (in_parentheses body) _ (c.in_ok-test.ensures.takes.row (Statement c.args.around) _ body _ (fails (within_err c.looped.ensures (c.in-Err.ensures.meets not)))))

@@ -1,0 +1,6 @@
+mod ShortTokens
+mod Nodes
+mod Heads
+mod Parts
+mod Heights
+mod States

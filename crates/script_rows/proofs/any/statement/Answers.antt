@@ -1,0 +1,121 @@
+use Rattle.std.proofs.Common.{◌≡◌, ◌≢◌, sym, ◌∙◌, arith, rules, refl, Some, None, true, false, [], ◌∷◌, ◌++◌, ℕ, max, List, MatchResult, MatchOption, subst}
+use Rattle.js_lexer.specs.declared.Mark.TheVariants as m
+use Rattle.js_lexer.specs.declared.Reserved.TheVariants as w
+use Rattle.js_tree.specs.declared.Case as clause
+use Rattle.js_tree.specs.declared.Catch as caught
+use Rattle.js_tree.specs.declared.Expr as expr
+use Rattle.js_tree.specs.declared.Script as script
+use Rattle.js_tree.specs.declared.Stmt.{Stmt}
+use Rattle.js_tree.specs.Trees.{case_of, catch_of, declaration_of}
+use Rattle.part_rows.specs.Lines.{TookBody, MissesBody, catch_rule}
+use Rattle.part_rows.proofs.Hungry.{declaration_shorter, statement_shorter}
+use Rattle.part_rows.proofs.Joints.{begun_start, onward}
+use Rattle.part_rows.proofs.Turns.{at_last, chain}
+use Rattle.script_grammar.specs.Grammar.{grammar, statement_as, after_try, a_name, as_read, block, expect, function, in_parentheses, switch}
+use Rattle.script_grammar.specs.Rules.{Context, Symbol, Rule}
+use Rattle.script_grammar.specs.Rules.Rule.{give, refuse, peek, read}
+use Rattle.script_grammar.specs.Rules.Symbol.{Block, Clauses, Declaration, Elements, Expr, Statement, Statements}
+use Rattle.script_grammar.specs.Stmts as s
+use Rattle.script_grammar.specs.Words.{Units}
+use Rattle.script_grammar.specs.declared.classes.Start.TheVariants as start
+use Rattle.script_grammar.specs.declared.stop.Stop.TheVariants.{Memory}
+use Rattle.script_grammar.proofs.Along.{row, whole, gives, refuses, peeks, peeks_end, eats, rises, sinks, passes, fails, passes_level, fails_level, yes, no, by, as_high, at, expects, misses, unpeeks, handed, handed_by, handed_on}
+use Rattle.script_grammar.proofs.Along as along
+use Rattle.script_grammar.proofs.Tokens.{live_word}
+use Rattle.script_rows.specs.Parts.{clauses_rule, TookClauses, MissesClauses, case_rule, TookCase, MissesCase, TookClause, MissesClause, NoClause, handlers_rule, last_rule, caught_rule, TookCatch, MissesCatch, TookElement, MissesElement}
+use Rattle.script_rows.proofs.Members.{turn_case, case_shorter, turn_default, default_shorter, again_clauses, body_of, as_block, opened, declared, stated, undeclared, unstated}
+use Rattle.script_rows.proofs.any.statement.Goals as goal
+
+pub returns-in_err-token-clause-meets : goal.returns-in_err-token-clause-meets
+returns-in_err-token-clause-meets g c = handed (Statement c.args.around) c.args.base (grammar (Statement c.args.around)) c.args.tokens.now c.from_residual.result c.from_residual.ensures.1
+    (λ not. peeks_end c.in_err-token.ensures.0 c.in_err-token.ensures.1)
+
+pub returns-in-Block-clause-meets : goal.returns-in-Block-clause-meets
+returns-in-Block-clause-meets g c = along.onward c.block.result (λ o x. peeks c.in_ok-token.ensures (by (statement_as c.args.around) c.in-Block.ensures x)) (as_block c.block.result c.block.ensures.meets)
+
+pub returns-in-Var-clause-meets : goal.returns-in-Var-clause-meets
+returns-in-Var-clause-meets g c = along.onward c.var_statement.result (λ o x. peeks c.in_ok-token.ensures (by (statement_as c.args.around) c.in-Var.ensures x)) c.var_statement.ensures.meets
+
+pub var_statement-requires-begun : goal.var_statement-requires-begun
+var_statement-requires-begun g c = begun_start start.Var c.in_ok-token.ensures c.in-Var.ensures (λ i. cc)
+
+pub returns-in-Empty-clause-meets : goal.returns-in-Empty-clause-meets
+returns-in-Empty-clause-meets g c = along.onward c.empty_statement.result (λ o x. peeks c.in_ok-token.ensures (by (statement_as c.args.around) c.in-Empty.ensures x)) (c.empty_statement.ensures.meets c.args.around)
+
+pub empty_statement-requires-begun : goal.empty_statement-requires-begun
+empty_statement-requires-begun g c = begun_start start.Empty c.in_ok-token.ensures c.in-Empty.ensures (λ i. cc)
+
+pub returns-in-If-clause-meets : goal.returns-in-If-clause-meets
+returns-in-If-clause-meets g c = along.onward c.if_statement.result (λ o x. peeks c.in_ok-token.ensures (by (statement_as c.args.around) c.in-If.ensures x)) c.if_statement.ensures.meets
+
+pub if_statement-requires-begun : goal.if_statement-requires-begun
+if_statement-requires-begun g c = begun_start start.If c.in_ok-token.ensures c.in-If.ensures (λ i. cc)
+
+pub returns-in-Do-clause-meets : goal.returns-in-Do-clause-meets
+returns-in-Do-clause-meets g c = along.onward c.do_statement.result (λ o x. peeks c.in_ok-token.ensures (by (statement_as c.args.around) c.in-Do.ensures x)) c.do_statement.ensures.meets
+
+pub do_statement-requires-begun : goal.do_statement-requires-begun
+do_statement-requires-begun g c = begun_start start.Do c.in_ok-token.ensures c.in-Do.ensures (λ i. cc)
+
+pub returns-in-While-clause-meets : goal.returns-in-While-clause-meets
+returns-in-While-clause-meets g c = along.onward c.while_statement.result (λ o x. peeks c.in_ok-token.ensures (by (statement_as c.args.around) c.in-While.ensures x)) c.while_statement.ensures.meets
+
+pub while_statement-requires-begun : goal.while_statement-requires-begun
+while_statement-requires-begun g c = begun_start start.While c.in_ok-token.ensures c.in-While.ensures (λ i. cc)
+
+pub returns-in-For-clause-meets : goal.returns-in-For-clause-meets
+returns-in-For-clause-meets g c = along.onward c.for_statement.result (λ o x. peeks c.in_ok-token.ensures (by (statement_as c.args.around) c.in-For.ensures x)) c.for_statement.ensures.meets
+
+pub for_statement-requires-begun : goal.for_statement-requires-begun
+for_statement-requires-begun g c = begun_start start.For c.in_ok-token.ensures c.in-For.ensures (λ i. cc)
+
+pub returns-in-Continue-clause-meets : goal.returns-in-Continue-clause-meets
+returns-in-Continue-clause-meets g c = along.onward c.continue_statement.result (λ o x. peeks c.in_ok-token.ensures (by (statement_as c.args.around) c.in-Continue.ensures x)) c.continue_statement.ensures.meets
+
+pub continue_statement-requires-begun : goal.continue_statement-requires-begun
+continue_statement-requires-begun g c = begun_start start.Continue c.in_ok-token.ensures c.in-Continue.ensures (λ i. cc)
+
+pub returns-in-Break-clause-meets : goal.returns-in-Break-clause-meets
+returns-in-Break-clause-meets g c = along.onward c.break_statement.result (λ o x. peeks c.in_ok-token.ensures (by (statement_as c.args.around) c.in-Break.ensures x)) c.break_statement.ensures.meets
+
+pub break_statement-requires-begun : goal.break_statement-requires-begun
+break_statement-requires-begun g c = begun_start start.Break c.in_ok-token.ensures c.in-Break.ensures (λ i. cc)
+
+pub returns-in-Return-clause-meets : goal.returns-in-Return-clause-meets
+returns-in-Return-clause-meets g c = along.onward c.return_statement.result (λ o x. peeks c.in_ok-token.ensures (by (statement_as c.args.around) c.in-Return.ensures x)) c.return_statement.ensures.meets
+
+pub return_statement-requires-begun : goal.return_statement-requires-begun
+return_statement-requires-begun g c = begun_start start.Return c.in_ok-token.ensures c.in-Return.ensures (λ i. cc)
+
+pub returns-in-Throw-clause-meets : goal.returns-in-Throw-clause-meets
+returns-in-Throw-clause-meets g c = along.onward c.throw_statement.result (λ o x. peeks c.in_ok-token.ensures (by (statement_as c.args.around) c.in-Throw.ensures x)) c.throw_statement.ensures.meets
+
+pub throw_statement-requires-begun : goal.throw_statement-requires-begun
+throw_statement-requires-begun g c = begun_start start.Throw c.in_ok-token.ensures c.in-Throw.ensures (λ i. cc)
+
+pub returns-in-Switch-clause-meets : goal.returns-in-Switch-clause-meets
+returns-in-Switch-clause-meets g c = along.onward c.switch_statement.result (λ o x. peeks c.in_ok-token.ensures (by (statement_as c.args.around) c.in-Switch.ensures x)) c.switch_statement.ensures.meets
+
+pub switch_statement-requires-begun : goal.switch_statement-requires-begun
+switch_statement-requires-begun g c = begun_start start.Switch c.in_ok-token.ensures c.in-Switch.ensures (λ i. cc)
+
+pub returns-in-Try-clause-meets : goal.returns-in-Try-clause-meets
+returns-in-Try-clause-meets g c = along.onward c.try_statement.result (λ o x. peeks c.in_ok-token.ensures (by (statement_as c.args.around) c.in-Try.ensures x)) c.try_statement.ensures.meets
+
+pub try_statement-requires-begun : goal.try_statement-requires-begun
+try_statement-requires-begun g c = begun_start start.Try c.in_ok-token.ensures c.in-Try.ensures (λ i. cc)
+
+pub returns-in-Identifier-clause-meets : goal.returns-in-Identifier-clause-meets
+returns-in-Identifier-clause-meets g c = along.onward c.identifier_statement.result (λ o x. peeks c.in_ok-token.ensures (by (statement_as c.args.around) c.in-Identifier.ensures x)) c.identifier_statement.ensures.meets
+
+pub returns-in-Parenthesis-clause-meets : goal.returns-in-Parenthesis-clause-meets
+returns-in-Parenthesis-clause-meets g c = along.onward c.parenthesis_statement.result (λ o x. peeks c.in_ok-token.ensures (by (statement_as c.args.around) c.in-Parenthesis.ensures x)) c.parenthesis_statement.ensures.meets
+
+pub parenthesis_statement-requires-open : goal.parenthesis_statement-requires-open
+parenthesis_statement-requires-open g c = opened c.in_ok-token.ensures c.in-Parenthesis.ensures
+
+pub returns-in-Expression-clause-meets : goal.returns-in-Expression-clause-meets
+returns-in-Expression-clause-meets g c = along.onward c.expression_statement.result (λ o x. peeks c.in_ok-token.ensures (by (statement_as c.args.around) c.in-Expression.ensures x)) c.expression_statement.ensures.meets
+
+pub returns-in-Neither-clause-meets : goal.returns-in-Neither-clause-meets
+returns-in-Neither-clause-meets g c not = row (peeks c.in_ok-token.ensures (by (statement_as c.args.around) c.in-Neither.ensures (refuses c.in_ok-token.ensures c.refused.ensures)))

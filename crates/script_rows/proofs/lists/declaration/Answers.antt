@@ -1,0 +1,51 @@
+use Rattle.std.proofs.Common.{◌≡◌, ◌≢◌, sym, ◌∙◌, arith, rules, refl, Some, None, true, false, [], ◌∷◌, ◌++◌, ℕ, max, List, MatchResult, MatchOption, subst}
+use Rattle.js_lexer.specs.declared.Mark.TheVariants as m
+use Rattle.js_lexer.specs.declared.Reserved.TheVariants as w
+use Rattle.js_tree.specs.declared.Case as clause
+use Rattle.js_tree.specs.declared.Catch as caught
+use Rattle.js_tree.specs.declared.Expr as expr
+use Rattle.js_tree.specs.declared.Script as script
+use Rattle.js_tree.specs.declared.Stmt.{Stmt}
+use Rattle.js_tree.specs.Trees.{case_of, catch_of, declaration_of}
+use Rattle.part_rows.specs.Lines.{TookBody, MissesBody, catch_rule}
+use Rattle.part_rows.proofs.Hungry.{declaration_shorter, statement_shorter}
+use Rattle.part_rows.proofs.Joints.{begun_start, onward}
+use Rattle.part_rows.proofs.Turns.{at_last, chain}
+use Rattle.script_grammar.specs.Grammar.{grammar, statement_as, after_try, a_name, as_read, block, expect, function, in_parentheses, switch}
+use Rattle.script_grammar.specs.Rules.{Context, Symbol, Rule}
+use Rattle.script_grammar.specs.Rules.Rule.{give, refuse, peek, read}
+use Rattle.script_grammar.specs.Rules.Symbol.{Block, Clauses, Declaration, Elements, Expr, Statement, Statements}
+use Rattle.script_grammar.specs.Stmts as s
+use Rattle.script_grammar.specs.Words.{Units}
+use Rattle.script_grammar.specs.declared.classes.Start.TheVariants as start
+use Rattle.script_grammar.specs.declared.stop.Stop.TheVariants.{Memory}
+use Rattle.script_grammar.proofs.Along.{row, whole, gives, refuses, peeks, peeks_end, eats, rises, sinks, passes, fails, passes_level, fails_level, yes, no, by, as_high, at, expects, misses, unpeeks, handed, handed_by, handed_on}
+use Rattle.script_grammar.proofs.Along as along
+use Rattle.script_grammar.proofs.Tokens.{live_word}
+use Rattle.script_rows.specs.Parts.{clauses_rule, TookClauses, MissesClauses, case_rule, TookCase, MissesCase, TookClause, MissesClause, NoClause, handlers_rule, last_rule, caught_rule, TookCatch, MissesCatch, TookElement, MissesElement}
+use Rattle.script_rows.proofs.Members.{turn_case, case_shorter, turn_default, default_shorter, again_clauses, body_of, as_block, opened, declared, stated, undeclared, unstated}
+use Rattle.script_rows.proofs.lists.declaration.Goals as goal
+
+abbrev parts : Units → Rule Declaration
+parts units = function (λ names body. give (declaration_of units names body))
+
+pub returns-in_err-token-clause-meets : goal.returns-in_err-token-clause-meets
+returns-in_err-token-clause-meets g c = handed Declaration c.args.base (grammar Declaration) c.args.tokens.now c.from_residual.result c.from_residual.ensures.1
+    (λ not. peeks_end c.in_err-token.ensures.0 c.in_err-token.ensures.1)
+
+pub returns-then-not-is_word-clause-meets : goal.returns-then-not-is_word-clause-meets
+returns-then-not-is_word-clause-meets g c not = row (peeks c.in_ok-token.ensures (no _ (sym c.is_word.ensures ∙ c.if-not-is_word.true) (refuses c.in_ok-token.ensures c.refused.ensures)))
+
+pub returns-then-base-eq-LIMIT-clause-meets : goal.returns-then-base-eq-LIMIT-clause-meets
+returns-then-base-eq-LIMIT-clause-meets g c not = row (peeks c.in_ok-token.ensures (yes (refuse None) (sym c.is_word.ensures ∙ c.if-not-is_word.false) (sinks {k = 1} (live_word w.Function _ (sym c.is_word.ensures ∙ c.if-not-is_word.false)) c.in_ok-token.ensures (omega arith))))
+
+pub returns-in_err-units-clause-meets : goal.returns-in_err-units-clause-meets
+returns-in_err-units-clause-meets g c = handed Declaration c.args.base (grammar Declaration) c.args.tokens.now c.from_residual-in_err-units.result c.from_residual-in_err-units.ensures.1
+    (λ not. peeks c.in_ok-token.ensures (yes (refuse None) (sym c.is_word.ensures ∙ c.if-not-is_word.false) (rises {k = 1} (live_word w.Function _ (sym c.is_word.ensures ∙ c.if-not-is_word.false)) c.in_ok-token.ensures (omega arith) ((c.in_err-units.ensures not).row Declaration c.args.base _ parts))))
+
+pub returns-in_err-names-clause-meets : goal.returns-in_err-names-clause-meets
+returns-in_err-names-clause-meets g c = handed Declaration c.args.base (grammar Declaration) c.args.tokens.now c.from_residual-in_err-names.result c.from_residual-in_err-names.ensures.1
+    (λ not. peeks c.in_ok-token.ensures (yes (refuse None) (sym c.is_word.ensures ∙ c.if-not-is_word.false) (rises {k = 1} (live_word w.Function _ (sym c.is_word.ensures ∙ c.if-not-is_word.false)) c.in_ok-token.ensures (omega arith) (c.in_ok-units.ensures.row Declaration c.args.base _ parts _ ((c.in_err-names.ensures.takes not).row Declaration _ (λ names body. give (declaration_of _ names body)))))))
+
+pub returns-clause-meets : goal.returns-clause-meets
+returns-clause-meets g c = row (peeks c.in_ok-token.ensures (yes (refuse None) (sym c.is_word.ensures ∙ c.if-not-is_word.false) (rises {k = 1} (live_word w.Function _ (sym c.is_word.ensures ∙ c.if-not-is_word.false)) c.in_ok-token.ensures (omega arith) (c.in_ok-units.ensures.row Declaration c.args.base _ parts _ (c.in_ok-names.ensures.takes.row Declaration _ (λ names body. give (declaration_of _ names body)) _ (gives c.make.ensures (omega arith)))))))

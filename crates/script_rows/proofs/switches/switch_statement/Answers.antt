@@ -1,0 +1,50 @@
+use Rattle.std.proofs.Common.{◌≡◌, ◌≢◌, sym, ◌∙◌, arith, rules, refl, Some, None, true, false, [], ◌∷◌, ◌++◌, ℕ, max, List, MatchResult, MatchOption, subst}
+use Rattle.js_lexer.specs.declared.Mark.TheVariants as m
+use Rattle.js_lexer.specs.declared.Reserved.TheVariants as w
+use Rattle.js_tree.specs.declared.Case as clause
+use Rattle.js_tree.specs.declared.Catch as caught
+use Rattle.js_tree.specs.declared.Expr as expr
+use Rattle.js_tree.specs.declared.Script as script
+use Rattle.js_tree.specs.declared.Stmt.{Stmt}
+use Rattle.js_tree.specs.Trees.{case_of, catch_of, declaration_of}
+use Rattle.part_rows.specs.Lines.{TookBody, MissesBody, catch_rule}
+use Rattle.part_rows.proofs.Hungry.{declaration_shorter, statement_shorter}
+use Rattle.part_rows.proofs.Joints.{begun_start, onward}
+use Rattle.part_rows.proofs.Turns.{at_last, chain}
+use Rattle.script_grammar.specs.Grammar.{grammar, statement_as, after_try, a_name, as_read, block, expect, function, in_parentheses, switch}
+use Rattle.script_grammar.specs.Rules.{Context, Symbol, Rule}
+use Rattle.script_grammar.specs.Rules.Rule.{give, refuse, peek, read}
+use Rattle.script_grammar.specs.Rules.Symbol.{Block, Clauses, Declaration, Elements, Expr, Statement, Statements}
+use Rattle.script_grammar.specs.Stmts as s
+use Rattle.script_grammar.specs.Words.{Units}
+use Rattle.script_grammar.specs.declared.classes.Start.TheVariants as start
+use Rattle.script_grammar.specs.declared.stop.Stop.TheVariants.{Memory}
+use Rattle.script_grammar.proofs.Along.{row, whole, gives, refuses, peeks, peeks_end, eats, rises, sinks, passes, fails, passes_level, fails_level, yes, no, by, as_high, at, expects, misses, unpeeks, handed, handed_by, handed_on}
+use Rattle.script_grammar.proofs.Along as along
+use Rattle.script_grammar.proofs.Tokens.{live_word}
+use Rattle.script_rows.specs.Parts.{clauses_rule, TookClauses, MissesClauses, case_rule, TookCase, MissesCase, TookClause, MissesClause, NoClause, handlers_rule, last_rule, caught_rule, TookCatch, MissesCatch, TookElement, MissesElement}
+use Rattle.script_rows.proofs.Members.{turn_case, case_shorter, turn_default, default_shorter, again_clauses, body_of, as_block, opened, declared, stated, undeclared, unstated}
+use Rattle.script_rows.proofs.switches.switch_statement.Goals as goal
+
+abbrev cases : {c : Context} → expr.Expr → Rule (Statement c)
+cases {c} value = clauses_rule (switch c) (λ all. give (s.Switch value all))
+
+in_switch : {a d : Context} {b : ℕ} {ts rest : List _} {all : List clause.Case} {height : ℕ} → a ≡ d → TookClauses a b ts all height rest → TookClauses d b ts all height rest
+in_switch {b = b} {ts = ts} {rest = rest} {all = all} {height = height} e took = subst (λ x. TookClauses x b ts all height rest) e took
+
+no_switch : {a d : Context} {b : ℕ} {ts : List _} {e : _} → a ≡ d → MissesClauses a b ts e → MissesClauses d b ts e
+no_switch {b = b} {ts = ts} {e = e} q misses = subst (λ x. MissesClauses x b ts e) q misses
+
+pub returns-in_err-stood-clause-meets : goal.returns-in_err-stood-clause-meets
+returns-in_err-stood-clause-meets g c = handed (Statement c.args.around) c.args.base (statement_as c.args.around start.Switch) c.args.tokens.now c.from_residual.result c.from_residual.ensures.1
+    (λ not. c.in_err-stood.ensures.stands.row (Statement c.args.around) 0 (in_parentheses cases))
+
+pub returns-in_err-value-clause-meets : goal.returns-in_err-value-clause-meets
+returns-in_err-value-clause-meets g c = handed (Statement c.args.around) c.args.base (statement_as c.args.around start.Switch) c.args.tokens.now c.from_residual-in_err-value.result c.from_residual-in_err-value.ensures.1
+    (λ not. c.in_ok-stood.ensures.stands.row (Statement c.args.around) 0 (in_parentheses cases) _ ((c.in_err-value.ensures.takes not).row (Statement c.args.around) _ cases))
+
+pub returns-in-Ok-clause-meets : goal.returns-in-Ok-clause-meets
+returns-in-Ok-clause-meets g c = row (c.in_ok-stood.ensures.stands.row (Statement c.args.around) 0 (in_parentheses cases) _ (c.in_ok-value.ensures.takes.row (Statement c.args.around) _ cases _ ((in_switch c.switched.ensures c.in-Ok.ensures.takes).row (Statement c.args.around) _ (λ all. give (s.Switch _ all)) _ (gives c.switch.ensures (omega arith)))))
+
+pub returns-in-Err-clause-meets : goal.returns-in-Err-clause-meets
+returns-in-Err-clause-meets g c not = row (c.in_ok-stood.ensures.stands.row (Statement c.args.around) 0 (in_parentheses cases) _ (c.in_ok-value.ensures.takes.row (Statement c.args.around) _ cases _ ((no_switch c.switched.ensures (c.in-Err.ensures.takes not)).row (Statement c.args.around) _ (λ all. give (s.Switch _ all)))))

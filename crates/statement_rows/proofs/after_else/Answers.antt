@@ -1,0 +1,23 @@
+use Rattle.std.proofs.Common.{◌≡◌, ◌≢◌, sym, ◌∙◌, arith, refl, Some, None, true, false, [], ℕ, max}
+use Rattle.js_lexer.specs.declared.Reserved.TheVariants as w
+use Rattle.js_tree.specs.declared.Expr as expr
+use Rattle.script_grammar.specs.Grammar.{statement_as, after_if, after_return, after_throw, ends, ends_identifier, halts, jump, loop, in_parentheses}
+use Rattle.script_grammar.specs.Rules.{Rule}
+use Rattle.script_grammar.specs.Rules.Rule.{give, refuse, read, stand}
+use Rattle.script_grammar.specs.Rules.Symbol.{Decls, Expr, Statement}
+use Rattle.script_grammar.specs.Stmts as s
+use Rattle.script_grammar.specs.declared.classes.Start.TheVariants as start
+use Rattle.script_grammar.specs.declared.stop.Stop.TheVariants.{Memory}
+use Rattle.script_grammar.proofs.Along.{row, whole, gives, refuses, peeks, peeks_end, eats, passes, fails, yes, no, expects_word, misses_word, handed, handed_on, begins_with}
+use Rattle.script_grammar.proofs.Along as along
+use Rattle.script_grammar.proofs.Tokens.{live_word}
+use Rattle.part_rows.proofs.Joints.{refuses_end, onward, ended, halted, jumped, ended_name}
+use Rattle.statement_rows.specs.Rests.{do_rule, else_rule, second_rule, test_rule, TookTest, MissesTest}
+use Rattle.statement_rows.proofs.Endings.{unended, unhalted, unjumped, unended_name, within, within_err, tested, opened_deep, begins_end}
+use Rattle.statement_rows.proofs.after_else.Goals as goal
+
+pub returns-in-Ok-clause-meets : goal.returns-in-Ok-clause-meets
+returns-in-Ok-clause-meets g c = row (passes c.in-Ok.ensures.meets (gives c.in_ok-made-in-Ok.ensures (omega arith)))
+
+pub returns-in-Err-clause-meets : goal.returns-in-Err-clause-meets
+returns-in-Err-clause-meets g c not = row (fails (c.in-Err.ensures.meets not))
