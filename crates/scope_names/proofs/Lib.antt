@@ -1,0 +1,12 @@
+pub mod NameLemmas
+pub mod ScopeLemmas
+pub mod HoistLemmas
+pub mod WalkParts
+pub mod ExprParts
+pub mod BindLemmas
+pub mod StmtParts
+pub mod OtherParts
+pub mod FrameParts
+pub mod ScriptParts
+pub mod TurnedParts
+pub mod TwoParts

@@ -1,0 +1,8 @@
+use Rattle.std.proofs.Common.{refl}
+use Rattle.js_tree.specs.declared.ExprNode.TheVariants as e
+use Rattle.js_tree.specs.Trees.{expr_of}
+use Rattle.scope_names.proofs.ExprParts.{assign_made}
+use Rattle.scope_names.proofs.parts.Below.assign.Goals as goal
+
+pub returns : goal.returns
+returns g c = assign_made c.args.self.now.left (expr_of (e.Assign c.args.operator c.args.a.now c.args.b.now)) refl c.in_ok-a.ensures c.in_ok-b.ensures

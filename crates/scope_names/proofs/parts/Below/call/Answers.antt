@@ -1,0 +1,8 @@
+use Rattle.std.proofs.Common.{refl}
+use Rattle.js_tree.specs.declared.ExprNode.TheVariants as e
+use Rattle.js_tree.specs.Trees.{expr_of}
+use Rattle.scope_names.proofs.ExprParts.{call_made}
+use Rattle.scope_names.proofs.parts.Below.call.Goals as goal
+
+pub returns : goal.returns
+returns g c = call_made c.args.self.now.left (expr_of (e.Call c.args.a.now c.args.list.now)) refl c.in_ok-a.ensures c.in_ok-list.ensures

@@ -1,0 +1,8 @@
+use Rattle.std.proofs.Common.{refl}
+use Rattle.js_tree.specs.declared.ExprNode.TheVariants as e
+use Rattle.js_tree.specs.Trees.{expr_of}
+use Rattle.scope_names.proofs.ExprParts.{member_made}
+use Rattle.scope_names.proofs.parts.Below.member.Goals as goal
+
+pub returns : goal.returns
+returns g c = member_made c.args.self.now.left (expr_of (e.Member c.args.a.now c.args.key.now)) refl c.in_ok-a.ensures c.in_ok-key.ensures

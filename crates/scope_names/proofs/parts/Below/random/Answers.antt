@@ -1,0 +1,8 @@
+use Rattle.std.proofs.Common.{refl}
+use Rattle.js_tree.specs.declared.ExprNode.TheVariants as e
+use Rattle.js_tree.specs.Trees.{expr_of}
+use Rattle.scope_names.proofs.ExprParts.{random_made}
+use Rattle.scope_names.proofs.parts.Below.random.Goals as goal
+
+pub returns : goal.returns
+returns g c = random_made c.args.self.now.left (expr_of (e.Random c.args.a.now)) refl c.in_ok-a.ensures

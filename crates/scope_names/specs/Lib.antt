@@ -1,0 +1,4 @@
+pub mod Gathered
+pub mod Kinds
+pub mod Shown
+pub mod Walks
