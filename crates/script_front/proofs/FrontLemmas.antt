@@ -10,7 +10,9 @@ use Rattle.js_parser.specs.Parses.{Refused}
 use Rattle.js_tree.specs.declared.Script.{Script}
 use Rattle.js_tree.specs.Lawful.{LawfulScript}
 use Rattle.lawful_reads.specs.Laws.{ScriptIsLawful}
-use Rattle.script_front.specs.Front.{IsTree, stop_of_tokens, stop_of_tree}
+use Rattle.js_tree.specs.Bare.{bare}
+use Rattle.js_tree.specs.NameCount.{declared_count, name_limit}
+use Rattle.script_front.specs.Front.{IsRead, IsTree, stop_of_tokens, stop_of_tree}
 use Rattle.script_front.specs.declared.ScriptStop.{ScriptStop}
 use Rattle.script_front.specs.declared.ScriptStop.TheVariants as stop
 use Rattle.script_grammar.specs.Goes.{Reads}
@@ -86,3 +88,19 @@ module _ {found slice ts : List Token} (lend : slice ≡ found) (only : IsOnly (
       told_tree : Result Script ParseStop → Result Script ScriptStop
       told_tree (Ok x) = Err stop.Memory
       told_tree (Err e) = Err (stop_of_tree e)
+
+-- ---- names
+
+pub read_refused : (bytes : List ℕ) (s : ScriptStop) → IsTree bytes (Err s) → IsRead bytes (Err s)
+read_refused bytes (stop.NotUtf8 place) a = a
+read_refused bytes (stop.BadToken place) a = a
+read_refused bytes (stop.NumberForm place) a = a
+read_refused bytes stop.TooLarge a = a
+read_refused bytes (stop.Syntax place) a = a
+read_refused bytes (stop.LeftOut place form) a = a
+read_refused bytes stop.Nesting a = a
+read_refused bytes stop.TooManyNames a = elim a [ ]
+read_refused bytes stop.Memory a = a
+
+pub read_bound : (bytes : List ℕ) (tree script : Script) → IsTree bytes (Ok tree) → bare script ≡ bare tree → declared_count tree ≤ name_limit → IsRead bytes (Ok script)
+read_bound bytes tree script a same few = (tree, a, same, few)

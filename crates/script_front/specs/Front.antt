@@ -1,4 +1,4 @@
--- What a script's bytes come to: the tree that the grammar reads of their tokens, or the first fault.
+-- What a script's bytes come to: the tree that the grammar reads of their tokens, with its names bound, or the first fault.
 use Rattle.std.specs.Prelude.{◌≡◌, ◌≤◌, ◌<◌, ℕ, List, Option, Some, None, Result, Ok, Err, length}
 use Rattle.js_lexer.specs.declared.Token.{Token}
 use Rattle.js_lexer.specs.declared.LexStop.{LexStop}
@@ -7,6 +7,8 @@ use Rattle.js_lexer.specs.Tokens.{Tokens, FirstFault}
 use Rattle.js_parser.specs.declared.ParseStop.{ParseStop}
 use Rattle.js_parser.specs.declared.ParseStop.TheVariants as parse
 use Rattle.js_parser.specs.Parses.{Refused}
+use Rattle.js_tree.specs.Bare.{bare}
+use Rattle.js_tree.specs.NameCount.{declared_count, name_limit}
 use Rattle.js_tree.specs.declared.Script.{Script}
 use Rattle.script_front.specs.declared.ScriptStop.{ScriptStop}
 use Rattle.script_front.specs.declared.ScriptStop.TheVariants as stop
@@ -43,4 +45,11 @@ IsTree bytes (Err (stop.NumberForm place)) = NoTokens bytes (lex.NumberForm plac
 IsTree bytes (Err (stop.Syntax place)) = NoTree bytes (parse.Syntax place)
 IsTree bytes (Err (stop.LeftOut place form)) = NoTree bytes (parse.LeftOut place form)
 IsTree bytes (Err stop.Nesting) = NoTree bytes parse.Nesting
+IsTree bytes (Err stop.TooManyNames) = ⊥
 IsTree bytes (Err stop.Memory) = Unit {0}
+
+-- the same, with the names bound: but for its bindings and numbers the script is the tree
+abbrev pub IsRead : List ℕ → Result Script ScriptStop → Type 0
+IsRead bytes (Ok script) = (tree : Script) × IsTree bytes (Ok tree) × (bare script ≡ bare tree) × (declared_count tree ≤ name_limit)
+IsRead bytes (Err stop.TooManyNames) = (tree : Script) × IsTree bytes (Ok tree) × (name_limit < declared_count tree)
+IsRead bytes (Err stop) = IsTree bytes (Err stop)

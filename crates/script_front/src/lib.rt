@@ -1,4 +1,4 @@
-//! A script's bytes, read to the tree that the grammar gives.
+//! A script's bytes, read to the tree that the grammar gives, with its names bound.
 #![tactic(auto)]
 
 ghost use Rattle.std.specs.Prelude.{◌≡◌, ◌≢◌, ◌≤◌, ℕ, List, Ok, Err, IfOk, length};
@@ -6,15 +6,17 @@ ghost use Rattle.js_lexer.specs.declared.Token.{Token};
 ghost use Rattle.js_lexer.specs.Tokens.{Tokens};
 ghost use Rattle.js_tree.specs.Lawful.{LawfulScript};
 ghost use Rattle.js_tree.specs.declared.Script as tree;
-ghost use Rattle.script_front.specs.Front.{IsTree, stop_of_tokens, stop_of_tree};
+ghost use Rattle.js_tree.specs.Binds.{IsBound};
+ghost use Rattle.script_front.specs.Front.{IsRead, IsTree, stop_of_tokens, stop_of_tree};
 ghost use Rattle.script_front.specs.declared.ScriptStop.TheVariants as why;
 ghost use Rattle.script_grammar.specs.Goes.{Reads};
 
 use js_lexer::{LexStop, tokens};
 pub use js_parser::Form;
 use js_parser::{ParseStop, parse};
-use js_tree::Script;
+use js_tree::{Resolved, Script};
 use lawful_reads::script_is_lawful;
+use scope_names::{ResolveStop, resolve};
 use std::alloc::Global;
 
 /// Why bytes are no script. A place is a byte's index.
@@ -34,6 +36,8 @@ pub enum ScriptStop {
     Nesting,
     /// As `Syntax`, and there stands a form of ECMA-262 that scripts do not have.
     LeftOut(u32, Form),
+    /// More than 65,535 names are declared.
+    TooManyNames,
     /// Memory ran out.
     Memory,
 }
@@ -80,5 +84,26 @@ pub fn read_tree(alloc: Global, bytes: &[u8]) -> Result<Script, ScriptStop>
     match parse(alloc, found.as_slice()) {
         Ok(tree) => Ok(tree),
         Err(stop) => Err(of_tree(stop)),
+    }
+}
+
+/// Reads a script and binds its names: the tree is that of `read_tree`, in which each name has the place of its
+/// declaration and each function its number, and nothing else is changed.
+///
+/// The faults come in this order: those of `read_tree`, and then `TooManyNames`, exactly where the parameters, variables,
+/// functions, names of catches and own names of function expressions, each counted once for its frame, are more than
+/// 65,535. `Memory` says nothing of the bytes.
+pub fn read_script(alloc: Global, bytes: &[u8]) -> Result<Resolved, ScriptStop>
+    ensures answer { IsRead bytes.now result }
+    ensures bound { IfOk result (λ script. IsBound script) }
+    ensures lawful { IfOk result (λ script. LawfulScript script) }
+{
+    match read_tree(alloc, bytes) {
+        Ok(tree) => match resolve(alloc, tree) {
+            Ok(script) => Ok(script),
+            Err(ResolveStop::TooManyNames) => Err(ScriptStop::TooManyNames),
+            Err(ResolveStop::Memory) => Err(ScriptStop::Memory),
+        },
+        Err(stop) => Err(stop),
     }
 }

@@ -7,7 +7,7 @@ use Rattle.outside.specs.declared.source.ReadStop.{ReadStop}
 use Rattle.outside.specs.declared.source.ReadStop.TheVariants.{Fault, TooLarge as TooLargeStop}
 use Rattle.turkit_top.specs.Answers.{IsAnswer, IsAnswerOf, IsAnswerOn, IsDue, IsGiven, Writing, is_plain, ending, refused, fault_note, note_of, nothing, ran, long, not_built, no_memory, read, no_script, memory_for_note, of_bytes, read_fault, too_large, memory, wrong_words, of_source, given, out_failed, notes_failed}
 use Rattle.js_tree.specs.declared.Script as tree
-use Rattle.script_front.specs.Front.{IsTree}
+use Rattle.script_front.specs.Front.{IsRead}
 use Rattle.script_front.specs.declared.ScriptStop.{ScriptStop}
 use Rattle.script_front.specs.declared.ScriptStop.TheVariants as why
 use Rattle.small_script.specs.Meaning.{writes}
@@ -38,10 +38,10 @@ tree_memory size script a is = subst (λ x. IsAnswerOn size script x) (sym is) n
 
 -- ---- the bytes
 
-pub no_tree : (bytes : List ℕ) (stop : ScriptStop) (a : Answer) → IsTree bytes (Err stop) → a ≡ refused stop → IsAnswerOf bytes a
+pub no_tree : (bytes : List ℕ) (stop : ScriptStop) (a : Answer) → IsRead bytes (Err stop) → a ≡ refused stop → IsAnswerOf bytes a
 no_tree bytes stop a e is = subst (λ x. IsAnswerOf bytes x) (sym is) (no_script e)
 
-pub no_tree_for : (bytes : List ℕ) (stop known : ScriptStop) (a : Answer) → IsTree bytes (Err stop) → stop ≡ known → a ≡ refused known → IsAnswerOf bytes a
+pub no_tree_for : (bytes : List ℕ) (stop known : ScriptStop) (a : Answer) → IsRead bytes (Err stop) → stop ≡ known → a ≡ refused known → IsAnswerOf bytes a
 no_tree_for bytes stop known a e same is = no_tree bytes stop a e (is ∙ sym (ap refused same))
 
 -- the answers that have a note of their own
@@ -52,10 +52,11 @@ noted (why.NumberForm place) f g = refl
 noted (why.Syntax place) f g = refl
 noted why.Nesting f g = refl
 noted (why.LeftOut place x) f g = refl
+noted why.TooManyNames f g = refl
 noted why.TooLarge f g = absurd (f refl)
 noted why.Memory f g = absurd (g refl)
 
-pub with_note : (bytes : List ℕ) (stop : ScriptStop) (out note : List ℕ) → IsTree bytes (Err stop) → (stop ≡ why.TooLarge → ⊥) → (stop ≡ why.Memory → ⊥) → out ≡ [] → note ≡ fault_note stop
+pub with_note : (bytes : List ℕ) (stop : ScriptStop) (out note : List ℕ) → IsRead bytes (Err stop) → (stop ≡ why.TooLarge → ⊥) → (stop ≡ why.Memory → ⊥) → out ≡ [] → note ≡ fault_note stop
     → IsAnswerOf bytes (record { status = Syntax; output = out; note = note })
 with_note bytes stop out note e f g o n = no_tree bytes stop _ e
     (ap (λ x. record { status = Syntax; output = x; note = note }) o ∙ ap (λ x. record { status = Syntax; output = []; note = x }) n ∙ sym (noted stop f g))
@@ -63,7 +64,7 @@ with_note bytes stop out note e f g o n = no_tree bytes stop _ e
 pub answer_memory : (bytes : List ℕ) (a : Answer) → a ≡ nothing Memory → IsAnswerOf bytes a
 answer_memory bytes a is = subst (λ x. IsAnswerOf bytes x) (sym is) memory_for_note
 
-pub answer_tree : (bytes : List ℕ) (script : tree.Script) (size : ℕ) (a : Answer) → IsTree bytes (Ok script) → size ≡ length bytes → IsAnswerOn size script a → IsAnswerOf bytes a
+pub answer_tree : (bytes : List ℕ) (script : tree.Script) (size : ℕ) (a : Answer) → IsRead bytes (Ok script) → size ≡ length bytes → IsAnswerOn size script a → IsAnswerOf bytes a
 answer_tree bytes script size a e same on = read e (subst (λ n. IsAnswerOn n script a) same on)
 
 -- ---- the source

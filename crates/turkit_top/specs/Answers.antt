@@ -4,7 +4,7 @@ use Rattle.std.specs.Cmp.Lexicographic.{pointwise}
 use Rattle.std.specs.Io.KnownBytes.{Appends, Consumes, IsAtEnd}
 use Rattle.outside.specs.Faults.{Rose}
 use Rattle.js_tree.specs.declared.Script as tree
-use Rattle.script_front.specs.Front.{IsTree}
+use Rattle.script_front.specs.Front.{IsRead}
 use Rattle.script_front.specs.declared.ScriptStop.{ScriptStop}
 use Rattle.script_front.specs.declared.ScriptStop.TheVariants as why
 use Rattle.script_grammar.specs.declared.Form.{Form}
@@ -60,6 +60,7 @@ fault_note (why.NumberForm place) = at_byte (codes "number form at byte ") place
 fault_note (why.Syntax place) = at_byte (codes "syntax error at byte ") place
 fault_note why.Nesting = codes "nesting over 200\n"
 fault_note (why.LeftOut place x) = at_form place x
+fault_note why.TooManyNames = codes "too many names\n"
 fault_note why.TooLarge = []
 fault_note why.Memory = []
 
@@ -86,8 +87,8 @@ pub data IsAnswerOn (size : ℕ) (script : tree.Script) : Answer → Type 0 wher
 
 -- What a script's bytes come to.
 pub data IsAnswerOf (bytes : List ℕ) : Answer → Type 0 where
-  read : {script : tree.Script} {a : Answer} → IsTree bytes (Ok script) → IsAnswerOn (length bytes) script a → IsAnswerOf bytes a
-  no_script : {stop : ScriptStop} → IsTree bytes (Err stop) → IsAnswerOf bytes (refused stop)
+  read : {script : tree.Script} {a : Answer} → IsRead bytes (Ok script) → IsAnswerOn (length bytes) script a → IsAnswerOf bytes a
+  no_script : {stop : ScriptStop} → IsRead bytes (Err stop) → IsAnswerOf bytes (refused stop)
   memory_for_note : IsAnswerOf bytes (nothing Memory)
 
 -- What a source comes to, by its faults and the bytes that it had left, before and after.

@@ -64,6 +64,7 @@ pub fn fault_note(alloc: Global, stop: ScriptStop) -> Result<Bytes, NoMemory>
         ScriptStop::Syntax(place) => at_byte(alloc, b"syntax error at byte ", place),
         ScriptStop::Nesting => Bytes::from_slice(alloc, b"nesting over 200\n"),
         ScriptStop::LeftOut(place, form) => at_form(alloc, place, form),
+        ScriptStop::TooManyNames => Bytes::from_slice(alloc, b"too many names\n"),
         ScriptStop::TooLarge | ScriptStop::Memory => Ok(Bytes::new(alloc)),
     }
 }

@@ -1,7 +1,7 @@
 //! The top call.
 
 ghost use Rattle.std.specs.Prelude.{◌≡◌, ◌≤◌, [], Err, codes, map, length};
-ghost use Rattle.script_front.specs.Front.{IsTree};
+ghost use Rattle.script_front.specs.Front.{IsRead};
 ghost use Rattle.turkit_top.specs.Answers.{IsAnswer, IsAnswerOf, IsAnswerOn, IsDue, IsGiven, is_file, is_plain, ending, note_of, nothing};
 ghost use Rattle.turkit_top.specs.declared.top.Answer.{Answer};
 
@@ -9,7 +9,7 @@ use crate::notes::fault_note;
 use crate::status::Status;
 use js_tree::Script;
 use outside::{ReadStop, Sink, Source, read_all, write_all};
-use script_front::{ScriptStop, read_tree};
+use script_front::{ScriptStop, read_script};
 use small_script::{Ran, Stop, run_small};
 use std::alloc::Global;
 use turk_base::Bytes;
@@ -89,7 +89,7 @@ fn answer_on(alloc: Global, size: usize, script: &Script) -> Answer
 
 /// What bytes that are no script come to.
 fn refused(alloc: Global, bytes: &[u8], stop: ScriptStop) -> Answer
-    requires { IsTree bytes.now (Err stop) }
+    requires { IsRead bytes.now (Err stop) }
     ensures { IsAnswerOf bytes.now result }
 {
     match stop {
@@ -110,12 +110,8 @@ fn refused(alloc: Global, bytes: &[u8], stop: ScriptStop) -> Answer
 fn answer_of(alloc: Global, bytes: &[u8]) -> Answer
     ensures { IsAnswerOf bytes.now result }
 {
-    match read_tree(alloc, bytes) {
-        Ok(script) => {
-            let answer = answer_on(alloc, bytes.len(), &script);
-            tree_drops::script(script);
-            answer
-        }
+    match read_script(alloc, bytes) {
+        Ok(script) => answer_on(alloc, bytes.len(), script.script()),
         Err(stop) => refused(alloc, bytes, stop),
     }
 }
