@@ -1,15 +1,9 @@
 //! The top call: a command's words, a script's bytes, its output and the notes.
 #![tactic(auto)]
 
-mod lexer;
-mod reader;
-mod runner;
+mod notes;
 mod status;
-mod stop;
-mod token;
 mod top;
-mod tree;
-mod word;
 
 pub use status::Status;
 pub use top::turkit;

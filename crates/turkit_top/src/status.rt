@@ -10,6 +10,8 @@ pub enum Status {
     Finished,
     /// The script was refused while it ran.
     Ended,
+    /// The bytes are no script.
+    Syntax,
     /// The script could not be read.
     ReadFault,
     /// The output or the notes could not be written. It stands in the place of any other.
@@ -30,6 +32,7 @@ impl Status {
         match self {
             Status::Finished => 0,
             Status::Ended => 1,
+            Status::Syntax => 3,
             Status::ReadFault => 6,
             Status::WriteFault => 9,
             Status::Memory => 10,

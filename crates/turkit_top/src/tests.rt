@@ -2,6 +2,7 @@
 
 use super::*;
 use outside::{MemorySink, MemorySource};
+use turk_base::Bytes;
 
 /// A script, the calls at which the source, the output and the notes fail, and what is to come.
 struct Row {
@@ -16,7 +17,7 @@ const SUM: &[u8] = b"print(1 + 2);";
 
 const PAST: &[u8] = b"var a = 9007199254740991; print(a + 1); print(a + 1 + 1);";
 
-const TABLE: [Row; 9] = [
+const TABLE: [Row; 16] = [
     Row {
         script: SUM,
         fails: [&[], &[], &[]],
@@ -80,6 +81,55 @@ const TABLE: [Row; 9] = [
         out: b"9007199254740992\n",
         notes: b"",
     },
+    Row {
+        script: b"var = 1;",
+        fails: [&[], &[], &[]],
+        status: Status::Syntax,
+        out: b"",
+        notes: b"syntax error at byte 4\n",
+    },
+    Row {
+        script: b"print(1.5);",
+        fails: [&[], &[], &[]],
+        status: Status::Syntax,
+        out: b"",
+        notes: b"number form at byte 6\n",
+    },
+    Row {
+        script: b"with (a) {}",
+        fails: [&[], &[], &[]],
+        status: Status::Syntax,
+        out: b"",
+        notes: b"left out at byte 0: With\n",
+    },
+    Row {
+        script: b"\x70\xFF",
+        fails: [&[], &[], &[]],
+        status: Status::Syntax,
+        out: b"",
+        notes: b"not UTF-8 at byte 1\n",
+    },
+    Row {
+        script: b"'a",
+        fails: [&[], &[], &[]],
+        status: Status::Syntax,
+        out: b"",
+        notes: b"bad token at byte 0\n",
+    },
+    Row {
+        script: b"var x = 017;",
+        fails: [&[], &[], &[]],
+        status: Status::Syntax,
+        out: b"",
+        notes: b"number form at byte 8\n",
+    },
+    Row {
+        script: b"if (1) print(2);",
+        fails: [&[], &[], &[]],
+        status: Status::NotBuilt,
+        out: b"",
+        notes: b"not built\n",
+    },
 ];
 
 #[test]
@@ -120,6 +170,58 @@ fn wrong_words_are_not_built(rt: HostRuntime) -> Result<(), std::test::Fail> {
         assert!(rt; status == Status::NotBuilt);
         assert!(rt; out.bytes() == b"".as_slice());
         assert!(rt; notes.bytes() == b"not built\n".as_slice());
+    }
+    Ok(())
+}
+
+/// A script that repeats a text, what follows it, and the note that is to come.
+struct Long {
+    part: &'static [u8],
+    times: usize,
+    last: &'static [u8],
+    notes: &'static [u8],
+}
+
+#[test]
+fn nesting_and_names_have_their_limits(rt: HostRuntime) -> Result<(), std::test::Fail> {
+    let table = [
+        Long {
+            part: b"- ",
+            times: 201,
+            last: b"1",
+            notes: b"nesting over 200\n",
+        },
+        Long {
+            part: b"function f(a, b) {}",
+            times: 30000,
+            last: b"",
+            notes: b"not built\n",
+        },
+        Long {
+            part: b"function f(a, b, c) {}",
+            times: 30000,
+            last: b"",
+            notes: b"too many names\n",
+        },
+    ];
+    for row in &table {
+        let mut text = Bytes::new(rt.alloc());
+        for _ in 0..row.times {
+            text.push_slice(row.part)?;
+        }
+        text.push_slice(row.last)?;
+        let mut script = MemorySource::new(rt.alloc(), text.as_slice(), &[])?;
+        let mut out = MemorySink::new(rt.alloc(), &[])?;
+        let mut notes = MemorySink::new(rt.alloc(), &[])?;
+        let _ = turkit(
+            rt.alloc(),
+            &["plain", "a.js"],
+            &mut script,
+            &mut out,
+            &mut notes,
+        );
+        assert!(rt; out.bytes() == b"".as_slice());
+        assert!(rt; notes.bytes() == row.notes);
     }
     Ok(())
 }

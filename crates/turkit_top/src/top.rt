@@ -1,18 +1,16 @@
 //! The top call.
 
-ghost use Rattle.std.specs.Prelude.{◌≡◌, ◌≤◌, [], codes, map, length, MatchResult};
-ghost use Rattle.turkit_top.specs.Answers.{IsAnswer, IsAnswerOf, IsDue, IsGiven, is_file, is_plain, ending, note_of, nothing};
-ghost use Rattle.turkit_top.specs.Reading.{Unless};
+ghost use Rattle.std.specs.Prelude.{◌≡◌, ◌≤◌, [], Err, codes, map, length};
+ghost use Rattle.script_front.specs.Front.{IsRead};
+ghost use Rattle.turkit_top.specs.Answers.{IsAnswer, IsAnswerOf, IsAnswerOn, IsDue, IsGiven, is_file, is_plain, ending, note_of, nothing};
 ghost use Rattle.turkit_top.specs.declared.top.Answer.{Answer};
-ghost use Rattle.turkit_top.specs.Scripts.{NoScript, OnlyScript};
 
-use crate::lexer::tokens;
-use crate::reader::statements;
-use crate::runner::{Ran, run};
+use crate::notes::fault_note;
 use crate::status::Status;
-use crate::stop::Stop;
-use crate::tree::Statement;
+use js_tree::Script;
 use outside::{ReadStop, Sink, Source, read_all, write_all};
+use script_front::{ScriptStop, read_script};
+use small_script::{Ran, Stop, run_small};
 use std::alloc::Global;
 use turk_base::Bytes;
 
@@ -27,13 +25,18 @@ const MOST_BYTES: usize = 65_536;
 pub struct Answer {
     pub status: Status,
     pub output: Bytes,
+    /// The note on a script that is none; empty with any other status.
+    pub note: Bytes,
 }
 
 fn without_output(alloc: Global, status: Status) -> Answer
     ensures { result ≡ nothing status }
 {
-    let output = Bytes::new(alloc);
-    Answer { status, output }
+    Answer {
+        status,
+        output: Bytes::new(alloc),
+        note: Bytes::new(alloc),
+    }
 }
 
 /// The words are `plain` and one word that isn't empty and doesn't begin with `-`.
@@ -55,18 +58,7 @@ fn file(word: &[u8]) -> bool
     }
 }
 
-/// The statements that the bytes are.
-fn script_of(alloc: Global, bytes: &[u8]) -> Result<Vec<Statement>, Stop>
-    ensures { MatchResult result (λ v. OnlyScript bytes.now v.items) (λ e. Unless e (NoScript bytes.now)) }
-{
-    if bytes.len() > MOST_BYTES {
-        return Err(Stop::NotBuilt);
-    }
-    let tokens = tokens(alloc, bytes)?;
-    statements(alloc, tokens.as_slice())
-}
-
-fn ended(ran: Ran) -> Answer
+fn ended(alloc: Global, ran: Ran) -> Answer
     ensures { result ≡ ending ran }
 {
     let status = if ran.finished {
@@ -77,6 +69,40 @@ fn ended(ran: Ran) -> Answer
     Answer {
         status,
         output: ran.output,
+        note: Bytes::new(alloc),
+    }
+}
+
+/// What the tree of a script of so many bytes comes to.
+fn answer_on(alloc: Global, size: usize, script: &Script) -> Answer
+    ensures { IsAnswerOn size script.now result }
+{
+    if size > MOST_BYTES {
+        return without_output(alloc, Status::NotBuilt);
+    }
+    match run_small(alloc, script) {
+        Ok(ran) => ended(alloc, ran),
+        Err(Stop::NotBuilt) => without_output(alloc, Status::NotBuilt),
+        Err(Stop::Memory) => without_output(alloc, Status::Memory),
+    }
+}
+
+/// What bytes that are no script come to.
+fn refused(alloc: Global, bytes: &[u8], stop: ScriptStop) -> Answer
+    requires { IsRead bytes.now (Err stop) }
+    ensures { IsAnswerOf bytes.now result }
+{
+    match stop {
+        ScriptStop::TooLarge => without_output(alloc, Status::TooLarge),
+        ScriptStop::Memory => without_output(alloc, Status::Memory),
+        _ => match fault_note(alloc, stop) {
+            Ok(note) => Answer {
+                status: Status::Syntax,
+                output: Bytes::new(alloc),
+                note,
+            },
+            Err(_) => without_output(alloc, Status::Memory),
+        },
     }
 }
 
@@ -84,14 +110,9 @@ fn ended(ran: Ran) -> Answer
 fn answer_of(alloc: Global, bytes: &[u8]) -> Answer
     ensures { IsAnswerOf bytes.now result }
 {
-    let script = match script_of(alloc, bytes) {
-        Ok(script) => script,
-        Err(Stop::NotBuilt) => return without_output(alloc, Status::NotBuilt),
-        Err(Stop::Memory) => return without_output(alloc, Status::Memory),
-    };
-    match run(alloc, script.as_slice()) {
-        Ok(ran) => ended(ran),
-        Err(_) => without_output(alloc, Status::Memory),
+    match read_script(alloc, bytes) {
+        Ok(script) => answer_on(alloc, bytes.len(), script.script()),
+        Err(stop) => refused(alloc, bytes, stop),
     }
 }
 
@@ -108,13 +129,14 @@ fn due<S: Source>(alloc: Global, script: &mut S) -> Answer
     }
 }
 
-/// The note of a status.
-fn note(status: Status) -> &'static [u8]
-    ensures { result.now ≡ note_of status }
+/// The note of an answer.
+fn note(answer: &Answer) -> &[u8]
+    ensures { result.now ≡ note_of answer.now }
 {
-    match status {
+    match answer.status {
         Status::Finished | Status::WriteFault => b"",
         Status::Ended => b"refused NotWhole\n",
+        Status::Syntax => answer.note.as_slice(),
         Status::ReadFault => b"read fault\n",
         Status::Memory => b"no memory\n",
         Status::TooLarge => b"script too large\n",
@@ -131,7 +153,7 @@ fn give<O: Sink>(answer: &Answer, out: &mut O, notes: &mut O) -> Status
     ensures notes_count { O.faults notes.old ≤ O.faults notes.new }
 {
     match write_all(out, answer.output.as_slice()) {
-        Ok(()) => match write_all(notes, note(answer.status)) {
+        Ok(()) => match write_all(notes, note(answer)) {
             Ok(()) => answer.status,
             Err(_) => Status::WriteFault,
         },
