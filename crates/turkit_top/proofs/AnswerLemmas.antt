@@ -25,7 +25,7 @@ on_ran : (size : ℕ) (script : tree.Script) (r : Ran) (a : Answer) → size ≤
 on_ran size script r a few (ss, small, e) is = subst (λ x. IsAnswerOn size script x) (sym (is ∙ ap ending e)) (ran few small)
 
 pub tree_ran : (size : ℕ) (script : tree.Script) (r : Ran) (a : Answer) → (65536 < size → ⊥) → ((ss : List Statement) × IsSmall script ss × (r ≡ writes [] ss)) → a ≡ ending r → IsAnswerOn size script a
-tree_ran size script r a few given is = on_ran size script r a (omega (arith, few)) given is
+tree_ran size script r a few found is = on_ran size script r a (omega (arith, few)) found is
 
 pub tree_long : (size : ℕ) (script : tree.Script) (a : Answer) → 65536 < size → a ≡ nothing NotBuilt → IsAnswerOn size script a
 tree_long size script a many is = subst (λ x. IsAnswerOn size script x) (sym is) (long many)
@@ -39,7 +39,7 @@ tree_memory size script a is = subst (λ x. IsAnswerOn size script x) (sym is) n
 -- ---- the bytes
 
 pub no_tree : (bytes : List ℕ) (stop : ScriptStop) (a : Answer) → IsRead bytes (Err stop) → a ≡ refused stop → IsAnswerOf bytes a
-no_tree bytes stop a e is = subst (λ x. IsAnswerOf bytes x) (sym is) (no_script e)
+no_tree bytes stop a e is = subst (λ x. IsAnswerOf bytes x) (sym is) (no_script stop e)
 
 pub no_tree_for : (bytes : List ℕ) (stop known : ScriptStop) (a : Answer) → IsRead bytes (Err stop) → stop ≡ known → a ≡ refused known → IsAnswerOf bytes a
 no_tree_for bytes stop known a e same is = no_tree bytes stop a e (is ∙ sym (ap refused same))

@@ -88,7 +88,7 @@ pub data IsAnswerOn (size : ℕ) (script : tree.Script) : Answer → Type 0 wher
 -- What a script's bytes come to.
 pub data IsAnswerOf (bytes : List ℕ) : Answer → Type 0 where
   read : {script : tree.Script} {a : Answer} → IsRead bytes (Ok script) → IsAnswerOn (length bytes) script a → IsAnswerOf bytes a
-  no_script : {stop : ScriptStop} → IsRead bytes (Err stop) → IsAnswerOf bytes (refused stop)
+  no_script : (stop : ScriptStop) → IsRead bytes (Err stop) → IsAnswerOf bytes (refused stop)
   memory_for_note : IsAnswerOf bytes (nothing Memory)
 
 -- What a source comes to, by its faults and the bytes that it had left, before and after.
