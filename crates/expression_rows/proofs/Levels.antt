@@ -27,11 +27,11 @@ module _ {no_in : Bool} {b : ℕ} {ts : List Token} (l level : ℕ) (e : level �
     level_stops {stop} = subst (λ x. Goes 200 (More no_in x left height) b (grammar (More no_in x left height)) us (Err stop) → Goes 200 (Binary no_in x) b (grammar (Binary no_in x)) ts (Err stop)) (sym e)
         (λ w. row (passes_level g (fails_level w)))
 
-    pub level_reads : {v : Operand} {above : ℕ} {rest : List Token} → Goes 200 (More no_in level left height) b (grammar (More no_in level left height)) us (Ok record { value = v; height = above; rest = rest })
-        → Goes 200 (Binary no_in level) b (grammar (Binary no_in level)) ts (Ok record { value = v; height = max height above; rest = rest })
-    level_reads {v} {above} {rest} = subst (λ x. Goes 200 (More no_in x left height) b (grammar (More no_in x left height)) us (Ok record { value = v; height = above; rest = rest })
-        → Goes 200 (Binary no_in x) b (grammar (Binary no_in x)) ts (Ok record { value = v; height = max height above; rest = rest })) (sym e)
-        (λ w. row (passes_level g (passes_level w (gives refl (omega arith)))))
+    pub level_reads : {v : Operand} {above k : ℕ} {rest : List Token} → k ≡ max height above → Goes 200 (More no_in level left height) b (grammar (More no_in level left height)) us (Ok record { value = v; height = above; rest = rest })
+        → Goes 200 (Binary no_in level) b (grammar (Binary no_in level)) ts (Ok record { value = v; height = k; rest = rest })
+    level_reads {v} {above} {k} {rest} q = subst (λ x. Goes 200 (More no_in x left height) b (grammar (More no_in x left height)) us (Ok record { value = v; height = above; rest = rest })
+        → Goes 200 (Binary no_in x) b (grammar (Binary no_in x)) ts (Ok record { value = v; height = k; rest = rest })) (sym e)
+        (λ w. row (passes_level g (passes_level w (gives refl (omega (arith, q))))))
 
 -- the right operand of an operator is of the level below
 below : (level : ℕ) → 0 < level → level - 1 ≡ tighter level

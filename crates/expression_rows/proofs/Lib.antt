@@ -1,4 +1,5 @@
 pub mod Levels
 pub mod Unaries
 pub mod Members
+mod Negations
 mod Commas

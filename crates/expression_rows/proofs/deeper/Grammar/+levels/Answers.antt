@@ -18,7 +18,7 @@ binary-returns-in_err-all-clause-meets g t c = handed_by (Binary c.args.no_in c.
     (λ not. level_stops (c.args.level - 1) c.args.level (omega arith) c.in_ok-left.ensures.meets (c.in_err-all.ensures.meets not))
 
 pub binary-returns-clause-meets : goal.binary-returns-clause-meets
-binary-returns-clause-meets g t c = level_reads (c.args.level - 1) c.args.level (omega arith) c.in_ok-left.ensures.meets c.in_ok-all.ensures.meets
+binary-returns-clause-meets g t c = level_reads (c.args.level - 1) c.args.level (omega arith) c.in_ok-left.ensures.meets (omega arith) c.in_ok-all.ensures.meets
 
 pub more-returns-in-Some-clause-meets : goal.more-returns-in-Some-clause-meets
 more-returns-in-Some-clause-meets g t c = onward c.operation.result (λ o w. peeks c.in-Ok.ensures (by (λ x. more_by c.args.no_in c.args.level c.args.left c.args.height x) c.in-Some.ensures (at c.in-Ok.ensures w)))
