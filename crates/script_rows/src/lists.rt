@@ -3,7 +3,8 @@
 ghost use Rattle.std.specs.Prelude.{◌≢◌, ◌≤◌, ◌+◌, Bool, true, false, [], MatchResult, IfOk};
 ghost use Rattle.part_rows.specs.Lines.{Exprs};
 ghost use Rattle.script_grammar.specs.Meets.{Assigns, Bodies, Ones, Meets};
-ghost use Rattle.script_grammar.specs.Rules.Symbol.{Declaration, Elements};
+ghost use Rattle.script_grammar.specs.Rules.Symbol as symbol;
+ghost use Rattle.script_grammar.specs.Rules.Symbol.{Elements};
 ghost use Rattle.script_grammar.specs.declared.stop.Stop.TheVariants.{Memory};
 ghost use Rattle.script_rows.specs.Parts.{TookElement, MissesElement};
 
@@ -39,7 +40,7 @@ fn declaration<
     requires ones { Ones below.now.depth (H.pre below.now.statement) (H.post below.now.statement) }
     requires depth { below.now.depth ≤ base + 1 }
     requires base { base ≤ 200 }
-    ensures meets { Meets Declaration base tokens.now result }
+    ensures meets { Meets symbol.Declaration base tokens.now result }
     ensures small { IfOk result (λ r. base + r.1 ≤ 200) }
 {
     let (token, after) = first(tokens)?;

@@ -16,8 +16,8 @@ use Rattle.statement_rows.specs.Rests.{do_rule, else_rule, second_rule, test_rul
 use Rattle.statement_rows.proofs.Endings.{unended, unhalted, unjumped, unended_name, from_none, from_none_err, within, within_err, tested, opened_deep, begins_end}
 use Rattle.statement_rows.proofs.after_do.Goals as goal
 
-pub returns-in-Ok-clause-meets : goal.returns-in-Ok-clause-meets
-returns-in-Ok-clause-meets g c = row (tested (λ test. s.DoWhile c.args.body test) c.in_ok-made-in-Ok.ensures (omega arith) c.in-Ok.ensures.takes)
+pub returns-in_ok-made-in-Ok-clause-meets : goal.returns-in_ok-made-in-Ok-clause-meets
+returns-in_ok-made-in-Ok-clause-meets g c = row (tested (λ test. s.DoWhile c.args.body test) c.in_ok-made-in-Ok.ensures (omega arith) c.in-Ok.ensures.takes)
 
 pub returns-in-Err-clause-meets : goal.returns-in-Err-clause-meets
 returns-in-Err-clause-meets g c not = row ((c.in-Err.ensures.takes not).row c.args.around 0 (λ test. s.DoWhile c.args.body test))

@@ -20,8 +20,8 @@ pub returns-in_err-made-in-Ok-clause-meets : goal.returns-in_err-made-in-Ok-clau
 returns-in_err-made-in-Ok-clause-meets g c = handed (Statement c.args.around) c.args.base (after_if c.args.test) c.args.tokens.now c.from_residual.result c.from_residual.ensures.1
     (λ not. passes c.in-Ok.ensures.meets (whole (c.in_err-made-in-Ok.ensures.meets not)))
 
-pub returns-in-Ok-clause-meets : goal.returns-in-Ok-clause-meets
-returns-in-Ok-clause-meets g c = row (passes c.in-Ok.ensures.meets (onward (omega arith) c.in_ok-made-in-Ok.ensures.meets))
+pub returns-in_ok-made-in-Ok-clause-meets : goal.returns-in_ok-made-in-Ok-clause-meets
+returns-in_ok-made-in-Ok-clause-meets g c = row (passes c.in-Ok.ensures.meets (onward (omega arith) c.in_ok-made-in-Ok.ensures.meets))
 
 pub returns-in-Err-clause-meets : goal.returns-in-Err-clause-meets
 returns-in-Err-clause-meets g c not = row (fails (c.in-Err.ensures.meets not))

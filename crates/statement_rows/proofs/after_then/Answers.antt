@@ -17,10 +17,10 @@ use Rattle.statement_rows.proofs.Endings.{unended, unhalted, unjumped, unended_n
 use Rattle.statement_rows.proofs.after_then.Goals as goal
 
 pub returns-then-is_word-clause-meets : goal.returns-then-is_word-clause-meets
-returns-then-is_word-clause-meets g c = along.onward c.after_else.result (λ o x. peeks c.in-Ok.ensures (yes _ (sym c.is_word.ensures ∙ c.if-is_word.true) (eats (live_word w.Else _ (sym c.is_word.ensures ∙ c.if-is_word.true)) c.in-Ok.ensures x))) c.after_else.ensures.meets
+returns-then-is_word-clause-meets g c = along.onward {n = (Statement c.args.around)} {b = c.args.base} {r = second_rule c.args.test c.args.yes} {s = else_rule c.args.test c.args.yes} c.after_else.result (λ o x. peeks c.in-Ok.ensures (yes _ (sym c.is_word.ensures ∙ c.if-is_word.true) (eats (live_word w.Else _ (sym c.is_word.ensures ∙ c.if-is_word.true)) c.in-Ok.ensures x))) c.after_else.ensures.meets
 
-pub returns-in-Ok-clause-meets : goal.returns-in-Ok-clause-meets
-returns-in-Ok-clause-meets g c = row (peeks c.in-Ok.ensures (no _ (sym c.is_word.ensures ∙ c.if-is_word.false) (gives c.in_ok-made-in-Ok.ensures (omega arith))))
+pub returns-in_ok-made-in-Ok-clause-meets : goal.returns-in_ok-made-in-Ok-clause-meets
+returns-in_ok-made-in-Ok-clause-meets g c = row (peeks c.in-Ok.ensures (no _ (sym c.is_word.ensures ∙ c.if-is_word.false) (gives c.in_ok-made-in-Ok.ensures (omega arith))))
 
 pub returns-in-Err-clause-meets : goal.returns-in-Err-clause-meets
 returns-in-Err-clause-meets g c not = row (peeks_end c.in-Err.ensures.0 c.in-Err.ensures.1)

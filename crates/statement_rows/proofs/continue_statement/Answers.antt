@@ -18,18 +18,18 @@ use Rattle.statement_rows.proofs.continue_statement.Goals as goal
 
 pub returns-in_err-token-clause-meets : goal.returns-in_err-token-clause-meets
 returns-in_err-token-clause-meets c = handed (Statement c.args.around) c.args.base (statement_as c.args.around start.Continue) c.args.tokens.now c.from_residual.result c.from_residual.ensures.1
-    (λ not. no _ c.if-not-in_loop.true (refuses_end c.in_err-token.ensures.0 c.in_err-token.ensures.1))
+    (λ not. no _ c.if-not-around.true (refuses_end c.in_err-token.ensures.0 c.in_err-token.ensures.1))
 
-pub returns-then-not-in_loop-clause-meets : goal.returns-then-not-in_loop-clause-meets
-returns-then-not-in_loop-clause-meets c not = row (no _ c.if-not-in_loop.true (refuses c.in_ok-token.ensures c.refused.ensures))
+pub returns-then-not-around-clause-meets : goal.returns-then-not-around-clause-meets
+returns-then-not-around-clause-meets c not = row (no _ c.if-not-around.true (refuses c.in_ok-token.ensures c.refused.ensures))
 
 pub returns-in_err-stood-clause-meets : goal.returns-in_err-stood-clause-meets
 returns-in_err-stood-clause-meets c = handed (Statement c.args.around) c.args.base (statement_as c.args.around start.Continue) c.args.tokens.now c.from_residual-in_err-stood.result c.from_residual-in_err-stood.ensures.1
-    (λ not. yes _ c.if-not-in_loop.false (c.in_err-stood.ensures.stands.row (Statement c.args.around) 0 (jump s.Continue)))
+    (λ not. yes _ c.if-not-around.false (c.in_err-stood.ensures.stands.row (Statement c.args.around) 0 (jump s.Continue)))
 
 pub returns-in_err-ended-clause-meets : goal.returns-in_err-ended-clause-meets
 returns-in_err-ended-clause-meets c = handed (Statement c.args.around) c.args.base (statement_as c.args.around start.Continue) c.args.tokens.now c.from_residual-in_err-ended.result c.from_residual-in_err-ended.ensures.1
-    (λ not. yes _ c.if-not-in_loop.false (c.in_ok-stood.ensures.stands.row (Statement c.args.around) 0 (jump s.Continue) _ (unjumped s.Continue c.in_err-ended.ensures)))
+    (λ not. yes _ c.if-not-around.false (c.in_ok-stood.ensures.stands.row (Statement c.args.around) 0 (jump s.Continue) _ (unjumped s.Continue c.in_err-ended.ensures)))
 
 pub returns-clause-meets : goal.returns-clause-meets
-returns-clause-meets c = row (yes _ c.if-not-in_loop.false (c.in_ok-stood.ensures.stands.row (Statement c.args.around) 0 (jump s.Continue) _ (jumped c.continue_loop.ensures (omega arith) c.in_ok-ended.ensures)))
+returns-clause-meets c = row (yes _ c.if-not-around.false (c.in_ok-stood.ensures.stands.row (Statement c.args.around) 0 (jump s.Continue) _ (jumped c.continue_loop.ensures (omega arith) c.in_ok-ended.ensures)))

@@ -27,15 +27,15 @@ pub returns-in_err-token-clause-meets : goal.returns-in_err-token-clause-meets
 returns-in_err-token-clause-meets g c = handed (Statement c.args.around) c.args.base (statement_as c.args.around start.Throw) c.args.tokens.now c.from_residual-in_err-token.result c.from_residual-in_err-token.ensures.1
     (λ not. c.in_ok-stood.ensures.stands.row (Statement c.args.around) 0 (after_throw) _ (peeks_end c.in_err-token.ensures.0 c.in_err-token.ensures.1))
 
-pub returns-then-after_newline-clause-meets : goal.returns-then-after_newline-clause-meets
-returns-then-after_newline-clause-meets g c not = row (c.in_ok-stood.ensures.stands.row (Statement c.args.around) 0 (after_throw) _ (peeks c.in_ok-token.ensures (yes value c.if-after_newline.true (refuses c.in_ok-token.ensures c.refused.ensures))))
+pub returns-then-token-clause-meets : goal.returns-then-token-clause-meets
+returns-then-token-clause-meets g c not = row (c.in_ok-stood.ensures.stands.row (Statement c.args.around) 0 (after_throw) _ (peeks c.in_ok-token.ensures (yes value c.if-token.true (refuses c.in_ok-token.ensures c.refused.ensures))))
 
 pub returns-in_err-value-clause-meets : goal.returns-in_err-value-clause-meets
 returns-in_err-value-clause-meets g c = handed (Statement c.args.around) c.args.base (statement_as c.args.around start.Throw) c.args.tokens.now c.from_residual-in_err-value.result c.from_residual-in_err-value.ensures.1
-    (λ not. c.in_ok-stood.ensures.stands.row (Statement c.args.around) 0 (after_throw) _ (peeks c.in_ok-token.ensures (no (refuse None) c.if-after_newline.false (fails (c.in_err-value.ensures.meets not)))))
+    (λ not. c.in_ok-stood.ensures.stands.row (Statement c.args.around) 0 (after_throw) _ (peeks c.in_ok-token.ensures (no (refuse None) c.if-token.false (fails (c.in_err-value.ensures.meets not)))))
 
 pub returns-in-Ok-clause-meets : goal.returns-in-Ok-clause-meets
-returns-in-Ok-clause-meets g c = row (c.in_ok-stood.ensures.stands.row (Statement c.args.around) 0 (after_throw) _ (peeks c.in_ok-token.ensures (no (refuse None) c.if-after_newline.false (passes c.in_ok-value.ensures.meets (ended c.throw.ensures (omega arith) c.in-Ok.ensures)))))
+returns-in-Ok-clause-meets g c = row (c.in_ok-stood.ensures.stands.row (Statement c.args.around) 0 (after_throw) _ (peeks c.in_ok-token.ensures (no (refuse None) c.if-token.false (passes c.in_ok-value.ensures.meets (ended c.throw.ensures (omega arith) c.in-Ok.ensures)))))
 
 pub returns-in-Err-clause-meets : goal.returns-in-Err-clause-meets
-returns-in-Err-clause-meets g c not = row (c.in_ok-stood.ensures.stands.row (Statement c.args.around) 0 (after_throw) _ (peeks c.in_ok-token.ensures (no (refuse None) c.if-after_newline.false (passes c.in_ok-value.ensures.meets (unended (s.Throw _) c.in-Err.ensures)))))
+returns-in-Err-clause-meets g c not = row (c.in_ok-stood.ensures.stands.row (Statement c.args.around) 0 (after_throw) _ (peeks c.in_ok-token.ensures (no (refuse None) c.if-token.false (passes c.in_ok-value.ensures.meets (unended (s.Throw _) c.in-Err.ensures)))))

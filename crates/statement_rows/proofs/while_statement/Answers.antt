@@ -27,8 +27,8 @@ pub returns-in_err-test-clause-meets : goal.returns-in_err-test-clause-meets
 returns-in_err-test-clause-meets g c = handed (Statement c.args.around) c.args.base (statement_as c.args.around start.While) c.args.tokens.now c.from_residual-in_err-test.result c.from_residual-in_err-test.ensures.1
     (λ not. c.in_ok-stood.ensures.stands.row (Statement c.args.around) 0 (in_parentheses body) _ ((c.in_err-test.ensures.takes not).row (Statement c.args.around) _ body))
 
-pub returns-in-Ok-clause-meets : goal.returns-in-Ok-clause-meets
-returns-in-Ok-clause-meets g c = row (c.in_ok-stood.ensures.stands.row (Statement c.args.around) 0 (in_parentheses body) _ (c.in_ok-test.ensures.takes.row (Statement c.args.around) _ body _ (passes (within c.looped.ensures c.in-Ok.ensures.meets) (gives c.in_ok-made-in-Ok.ensures (omega arith)))))
+pub returns-in_ok-made-in-Ok-clause-meets : goal.returns-in_ok-made-in-Ok-clause-meets
+returns-in_ok-made-in-Ok-clause-meets g c = row (c.in_ok-stood.ensures.stands.row (Statement c.args.around) 0 (in_parentheses body) _ (c.in_ok-test.ensures.takes.row (Statement c.args.around) _ body _ (passes (within c.looped.ensures c.in-Ok.ensures.meets) (gives c.in_ok-made-in-Ok.ensures (omega arith)))))
 
 pub returns-in-Err-clause-meets : goal.returns-in-Err-clause-meets
 returns-in-Err-clause-meets g c not = row (c.in_ok-stood.ensures.stands.row (Statement c.args.around) 0 (in_parentheses body) _ (c.in_ok-test.ensures.takes.row (Statement c.args.around) _ body _ (fails (within_err c.looped.ensures (c.in-Err.ensures.meets not)))))

@@ -27,7 +27,7 @@ use Rattle.script_rows.proofs.Members.{turn_case, case_shorter, turn_default, de
 use Rattle.script_rows.proofs.tries.after_try.Goals as goal
 
 pub returns-then-is_word-clause-meets : goal.returns-then-is_word-clause-meets
-returns-then-is_word-clause-meets g c = along.onward c.finally.result (λ o x. peeks c.in-Ok.ensures (yes _ (sym c.is_word.ensures ∙ c.if-is_word.true) (eats (live_word w.Finally _ (sym c.is_word.ensures ∙ c.if-is_word.true)) c.in-Ok.ensures x))) c.finally.ensures.meets
+returns-then-is_word-clause-meets g c = along.onward {n = (Statement c.args.around)} {b = c.args.base} {r = last_rule c.args.body c.args.caught} {s = peek (after_try c.args.body c.args.caught c.args.some)} c.finally.result (λ o x. peeks c.in-Ok.ensures (yes _ (sym c.is_word.ensures ∙ c.if-is_word.true) (eats (live_word w.Finally _ (sym c.is_word.ensures ∙ c.if-is_word.true)) c.in-Ok.ensures x))) c.finally.ensures.meets
 
 pub returns-then-some-clause-meets : goal.returns-then-some-clause-meets
 returns-then-some-clause-meets g c = row (peeks c.in-Ok.ensures (no _ (sym c.is_word.ensures ∙ c.if-is_word.false) (yes _ c.if-some.true (gives c.in_ok-made.ensures (omega arith)))))

@@ -33,8 +33,8 @@ pub returns-in_err-made-in-Ok-clause-meets : goal.returns-in_err-made-in-Ok-clau
 returns-in_err-made-in-Ok-clause-meets g c = handed (Statement c.args.around) c.args.base (catch_rule c.args.body) c.args.tokens.now c.from_residual.result c.from_residual.ensures.1
     (λ not. c.in-Ok.ensures.takes.row (Statement c.args.around) 0 (after c.args.body) _ (whole (c.in_err-made-in-Ok.ensures.meets not)))
 
-pub returns-in-Ok-clause-meets : goal.returns-in-Ok-clause-meets
-returns-in-Ok-clause-meets g c = row (c.in-Ok.ensures.takes.row (Statement c.args.around) 0 (after c.args.body) _ (onward (omega arith) c.in_ok-made-in-Ok.ensures.meets))
+pub returns-in_ok-made-in-Ok-clause-meets : goal.returns-in_ok-made-in-Ok-clause-meets
+returns-in_ok-made-in-Ok-clause-meets g c = row (c.in-Ok.ensures.takes.row (Statement c.args.around) 0 (after c.args.body) _ (onward (omega arith) c.in_ok-made-in-Ok.ensures.meets))
 
 pub returns-in-Err-clause-meets : goal.returns-in-Err-clause-meets
 returns-in-Err-clause-meets g c not = row ((c.in-Err.ensures.takes not).row (Statement c.args.around) 0 (after c.args.body))

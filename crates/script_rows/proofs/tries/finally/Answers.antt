@@ -26,8 +26,8 @@ use Rattle.script_rows.specs.Parts.{clauses_rule, TookClauses, MissesClauses, ca
 use Rattle.script_rows.proofs.Members.{turn_case, case_shorter, turn_default, default_shorter, again_clauses, body_of, as_block, opened, declared, stated, undeclared, unstated}
 use Rattle.script_rows.proofs.tries.finally.Goals as goal
 
-pub returns-in-Ok-clause-meets : goal.returns-in-Ok-clause-meets
-returns-in-Ok-clause-meets g c = row (passes c.in-Ok.ensures.meets (gives c.in_ok-made-in-Ok.ensures (omega arith)))
+pub returns-in_ok-made-in-Ok-clause-meets : goal.returns-in_ok-made-in-Ok-clause-meets
+returns-in_ok-made-in-Ok-clause-meets g c = row (passes c.in-Ok.ensures.meets (gives c.in_ok-made-in-Ok.ensures (omega arith)))
 
 pub returns-in-Err-clause-meets : goal.returns-in-Err-clause-meets
 returns-in-Err-clause-meets g c not = row (fails (c.in-Err.ensures.meets not))
