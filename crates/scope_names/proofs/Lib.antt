@@ -10,3 +10,4 @@ pub mod FrameParts
 pub mod ScriptParts
 pub mod TurnedParts
 pub mod TwoParts
+pub mod EmptyScript

@@ -213,10 +213,10 @@ fn names_in_catches(rt: HostRuntime) -> Result<(), Fail> {
 #[test]
 fn many_names(rt: HostRuntime) -> Result<(), Fail> {
     let alloc = rt.alloc();
-    for (count, answer) in [(65535, 65535), (65536, 65536), (65537, 65536)] {
+    for (count, answer) in [(65535u32, 65535u32), (65536, 65536), (65537, 65536)] {
         let mut variables = Items::new(alloc);
         for number in 0..count {
-            let text = [(number % 65536) as u16, (number / 65536) as u16];
+            let text = [(number % 65536) as u16, (number / 65536 % 256) as u16];
             variables.push(Variable {
                 named: Named::make(Units::from_slice(alloc, &text)?),
                 value: None,
@@ -232,6 +232,7 @@ fn many_names(rt: HostRuntime) -> Result<(), Fail> {
 }
 
 #[test]
+#[tactic(auto, using(crate::proofs::EmptyScript::empty_lawful))]
 fn empty(rt: HostRuntime) -> Result<(), Fail> {
     let alloc = rt.alloc();
     let script = Script::make(Items::new(alloc), Items::new(alloc));
