@@ -1,5 +1,5 @@
 //! Each built-in call over a plain heap, with answers worked by hand from the language's rules.
-ghost use Rattle.std.specs.Prelude.{◌≤◌, IfOk};
+ghost use Rattle.std.specs.Prelude.{◌<◌, ◌≤◌, IfOk};
 ghost use Rattle.value_cells.specs.Needs.{needs, all_needs};
 ghost use Rattle.value_cells.specs.Seen.{count};
 ghost use Rattle.plain_heap.specs.Plain.{plain_seen};
@@ -95,92 +95,150 @@ fn has(
     }
 }
 
-#[test]
-fn arrays_over_a_plain_heap(rt: HostRuntime) -> Result<(), Fail> {
-    let alloc = rt.alloc();
-    let mut heap = PlainHeap::new(alloc, 1000)?;
-    let Ok(cell) = heap.make(CellKind::Array) else {
-        panic!(rt; "no array");
-    };
-    assert!(rt; cell == 7);
+/// `push`, `pop` and `join`, over an empty array.
+fn ends(alloc: Global, heap: &mut PlainHeap, cell: u32) -> bool
+    requires { cell < count (plain_seen heap.old) }
+    ensures { count (plain_seen heap.old) ≤ count (plain_seen heap.new) }
+{
     let a = Value::Object(cell);
-    let pushed = called(alloc, &mut heap, 0, &a, &[number(7), Value::Null]);
-    assert!(rt; is_number(&pushed, 2));
-    let popped = called(alloc, &mut heap, 1, &a, &[]);
-    assert!(rt; matches!(popped, Ok(Value::Null)));
+    let pushed = called(alloc, heap, 0, &a, &[number(7), Value::Null]);
+    let popped = called(alloc, heap, 1, &a, &[]);
+    let joined = called(alloc, heap, 2, &a, &[]);
+    is_number(&pushed, 2) && matches!(popped, Ok(Value::Null)) && is_text(alloc, &joined, b"7")
+}
+
+/// `concat`, `slice` and `reverse`, over an array with a hole: 7, none, 9.
+fn copies(alloc: Global, heap: &mut PlainHeap, cell: u32) -> Result<bool, NoMemory>
+    requires { cell < count (plain_seen heap.old) }
+    ensures { count (plain_seen heap.old) ≤ count (plain_seen heap.new) }
+{
+    let a = Value::Object(cell);
+    let both = called(alloc, heap, 3, &a, &[number(5), Value::Object(cell)]);
+    let first = joins(alloc, heap, both, b"7--9-5-7--9")?;
+    let part = called(alloc, heap, 4, &a, &[number(1)]);
+    let second = joins(alloc, heap, part, b"-9")?;
+    let turned = called(alloc, heap, 5, &a, &[]);
+    let third = joins(alloc, heap, turned, b"9--7")?;
+    Ok(first && second && third)
+}
+
+/// Whether an array has no element there.
+fn is_hole(alloc: Global, heap: &mut PlainHeap, cell: u32, index: &[u8]) -> Result<bool, NoMemory>
+    requires { cell < count (plain_seen heap.old) }
+    ensures { count (plain_seen heap.old) ≤ count (plain_seen heap.new) }
+{
+    let index = Units::from_bytes(alloc, index)?;
+    Ok(matches!(heap.get(cell, &index), Ok(None)))
+}
+
+fn arrays(alloc: Global, heap: &mut PlainHeap) -> Result<bool, NoMemory> {
+    let Ok(cell) = heap.make(CellKind::Array) else {
+        return Ok(false);
+    };
+    let ended = ends(alloc, heap, cell);
     let two = Units::from_bytes(alloc, b"2")?;
-    assert!(rt; heap.put(cell, &two, number(9)).is_ok());
-    let joined = called(alloc, &mut heap, 2, &a, &[]);
-    assert!(rt; is_text(alloc, &joined, b"7,,9"));
-    let both = called(alloc, &mut heap, 3, &a, &[number(5), Value::Object(cell)]);
-    assert!(rt; joins(alloc, &mut heap, both, b"7--9-5-7--9")?);
-    let last = Value::Number(Whole::from_u32(2).negated());
-    let part = called(alloc, &mut heap, 4, &a, &[last]);
-    assert!(rt; joins(alloc, &mut heap, part, b"-9")?);
-    let turned = called(alloc, &mut heap, 5, &a, &[]);
-    assert!(rt; joins(alloc, &mut heap, turned, b"9--7")?);
-    let one = Units::from_bytes(alloc, b"1")?;
-    assert!(rt; matches!(heap.get(cell, &one), Ok(None)));
-    Ok(())
+    let put = heap.put(cell, &two, number(9)).is_ok();
+    let copied = copies(alloc, heap, cell)?;
+    let hole = is_hole(alloc, heap, cell, b"1")?;
+    Ok(cell == 7 && ended && put && copied && hole)
 }
 
-#[test]
-fn texts_over_a_plain_heap(rt: HostRuntime) -> Result<(), Fail> {
-    let alloc = rt.alloc();
-    let mut heap = PlainHeap::new(alloc, 1000)?;
+/// The calls on a text that give a unit, a number, a part.
+fn parts(alloc: Global, heap: &mut PlainHeap, abab: &Value, b: &Value) -> Result<bool, NoMemory>
+    requires text { needs abab.now ≤ 0 }
+    requires piece { needs b.now ≤ 0 }
+{
+    let unit = called(alloc, heap, 6, abab, &[number(1)]);
+    let past = called(alloc, heap, 7, b, &[number(1)]);
+    let code = called(alloc, heap, 7, abab, &[number(1)]);
+    let place = called(alloc, heap, 8, abab, &[b.copy(alloc)?, number(2)]);
+    let part = called(alloc, heap, 9, abab, &[number(3), number(1)]);
+    Ok(
+        is_text(alloc, &unit, b"b")
+            && matches!(past, Err(CallStop::NotWhole))
+            && is_number(&code, 98)
+            && is_number(&place, 3)
+            && is_text(alloc, &part, b"ba"),
+    )
+}
+
+/// `split`, and a call that is none of a text's.
+fn pieces(alloc: Global, heap: &mut PlainHeap, abab: &Value, b: Value) -> Result<bool, NoMemory>
+    requires text { needs abab.now ≤ 0 }
+    requires piece { needs b ≤ 0 }
+{
+    let units = called(alloc, heap, 10, abab, &[text(alloc, b"")?]);
+    let first = joins(alloc, heap, units, b"a-b-a-b")?;
+    let between = called(alloc, heap, 10, abab, &[b]);
+    let second = joins(alloc, heap, between, b"a-a-")?;
+    let thrown = called(alloc, heap, 0, abab, &[]);
+    Ok(first && second && matches!(thrown, Err(CallStop::Throw(0, _))))
+}
+
+fn texts(alloc: Global, heap: &mut PlainHeap) -> Result<bool, NoMemory> {
     let abab = text(alloc, b"abab")?;
-    let unit = called(alloc, &mut heap, 6, &abab, &[number(1)]);
-    assert!(rt; is_text(alloc, &unit, b"b"));
-    let a = text(alloc, b"a")?;
-    let code = called(alloc, &mut heap, 7, &a, &[number(1)]);
-    assert!(rt; matches!(code, Err(CallStop::NotWhole)));
-    let code = called(alloc, &mut heap, 7, &abab, &[number(1)]);
-    assert!(rt; is_number(&code, 98));
     let b = text(alloc, b"b")?;
-    let place = called(alloc, &mut heap, 8, &abab, &[b, number(2)]);
-    assert!(rt; is_number(&place, 3));
-    let part = called(alloc, &mut heap, 9, &abab, &[number(3), number(1)]);
-    assert!(rt; is_text(alloc, &part, b"ba"));
-    let empty = text(alloc, b"")?;
-    let pieces = called(alloc, &mut heap, 10, &abab, &[empty]);
-    assert!(rt; joins(alloc, &mut heap, pieces, b"a-b-a-b")?);
-    let b = text(alloc, b"b")?;
-    let pieces = called(alloc, &mut heap, 10, &abab, &[b]);
-    assert!(rt; joins(alloc, &mut heap, pieces, b"a-a-")?);
-    let thrown = called(alloc, &mut heap, 0, &abab, &[]);
-    assert!(rt; matches!(thrown, Err(CallStop::Throw(0, _))));
-    Ok(())
+    let parts = parts(alloc, heap, &abab, &b)?;
+    let pieces = pieces(alloc, heap, &abab, b)?;
+    Ok(parts && pieces)
+}
+
+/// An error of a kind, with its message and its name.
+fn error(alloc: Global, heap: &mut PlainHeap, which: u8, name: &[u8]) -> Result<bool, NoMemory> {
+    let made = called(alloc, heap, which, &Value::Undefined, &[number(3)]);
+    let message = has(alloc, heap, &made, b"message", b"3")?;
+    let name = has(alloc, heap, &made, b"name", name)?;
+    Ok(message && name)
+}
+
+fn others(alloc: Global, heap: &mut PlainHeap) -> Result<bool, NoMemory> {
+    let none = Value::Undefined;
+    let units = called(alloc, heap, 11, &none, &[number(65_601), number(66)]);
+    let truth = called(alloc, heap, 12, &none, &[Value::Truth(true)]);
+    let general = error(alloc, heap, 13, b"Error")?;
+    let of_type = error(alloc, heap, 14, b"TypeError")?;
+    let of_name = error(alloc, heap, 15, b"ReferenceError")?;
+    Ok(
+        is_text(alloc, &units, b"AB")
+            && is_text(alloc, &truth, b"true")
+            && general
+            && of_type
+            && of_name,
+    )
+}
+
+/// A text that is past the fuel, 2; then a cell for one, and what is left.
+fn charges(alloc: Global, heap: &mut PlainHeap) -> Result<bool, NoMemory> {
+    let abab = text(alloc, b"abab")?;
+    let spent = called(alloc, heap, 9, &abab, &[]);
+    let made = matches!(heap.make(CellKind::Array), Ok(7));
+    let past = matches!(heap.pay(2), Err(OpStop::Spent));
+    let paid = heap.pay(1).is_ok();
+    Ok(matches!(spent, Err(CallStop::Spent)) && made && past && paid)
+}
+
+/// Each of the sixteen calls, over one heap.
+fn all_calls(alloc: Global, heap: &mut PlainHeap) -> Result<bool, NoMemory> {
+    let arrays = arrays(alloc, heap)?;
+    let texts = texts(alloc, heap)?;
+    let others = others(alloc, heap)?;
+    Ok(arrays && texts && others)
 }
 
 #[test]
-fn others_over_a_plain_heap(rt: HostRuntime) -> Result<(), Fail> {
+fn each_call_answers(rt: HostRuntime) -> Result<(), Fail> {
     let alloc = rt.alloc();
     let mut heap = PlainHeap::new(alloc, 1000)?;
-    let none = Value::Undefined;
-    let units = called(alloc, &mut heap, 11, &none, &[number(65_601), number(66)]);
-    assert!(rt; is_text(alloc, &units, b"AB"));
-    let truth = called(alloc, &mut heap, 12, &none, &[Value::Truth(true)]);
-    assert!(rt; is_text(alloc, &truth, b"true"));
-    let error = called(alloc, &mut heap, 13, &none, &[number(3)]);
-    assert!(rt; has(alloc, &mut heap, &error, b"message", b"3")?);
-    assert!(rt; has(alloc, &mut heap, &error, b"name", b"Error")?);
-    let error = called(alloc, &mut heap, 14, &none, &[]);
-    assert!(rt; has(alloc, &mut heap, &error, b"message", b"")?);
-    assert!(rt; has(alloc, &mut heap, &error, b"name", b"TypeError")?);
-    let error = called(alloc, &mut heap, 15, &none, &[]);
-    assert!(rt; has(alloc, &mut heap, &error, b"name", b"ReferenceError")?);
+    let answered = all_calls(alloc, &mut heap)?;
+    assert!(rt; answered);
     Ok(())
 }
 
 #[test]
-fn charges_of_a_plain_heap(rt: HostRuntime) -> Result<(), Fail> {
+fn calls_are_charged(rt: HostRuntime) -> Result<(), Fail> {
     let alloc = rt.alloc();
     let mut heap = PlainHeap::new(alloc, 2)?;
-    let abab = text(alloc, b"abab")?;
-    let spent = called(alloc, &mut heap, 9, &abab, &[]);
-    assert!(rt; matches!(spent, Err(CallStop::Spent)));
-    assert!(rt; matches!(heap.make(CellKind::Array), Ok(7)));
-    assert!(rt; matches!(heap.pay(2), Err(OpStop::Spent)));
-    assert!(rt; heap.pay(1).is_ok());
+    let charged = charges(alloc, &mut heap)?;
+    assert!(rt; charged);
     Ok(())
 }

@@ -75,7 +75,7 @@ works_known old whole i here kind e go said last y = record {
             let f = fits_before nu (names_in old.cells.now) (names_in last.cells.now) l.stays.grows fits in
             let k = known_here nu old.cells.now (tells nu old.cells.now whole f) i here kind e in
             subst (λ c. Did c (said nu) (placed nu last (r.base nu)) last.left)
-              (sym (comes_known (nu i) (go nu) (path_in old.place.path) (path_in old.place.branch) r.body (placed nu old (r.base nu)) old.left (record { kind = kind_in nu kind; chain = map nu (chain_of (kinds_of old.cells.now) i) }) k))
-              (l.did nu fits);
+            (sym (comes_known (nu i) (go nu) (path_in old.place.path) (path_in old.place.branch) r.body (placed nu old (r.base nu)) old.left (record { kind = kind_in nu kind; chain = map nu (chain_of (kinds_of old.cells.now) i) }) k))
+            (l.did nu fits);
       };
 }

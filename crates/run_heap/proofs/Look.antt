@@ -70,7 +70,7 @@ module _ (cells : Held) (place : Place) (outer : List Place) (left : ℕ) (whole
         let edits : Edits i (λ nu. look key) was now = record { props = props; cells = sym (with_same cells.now i); props_are = λ nu. refl; watch = w; made = refl } in
         works_one (λ nu. step (change true (nu i) (look key)) give) (λ nu. option_map (val_in nu) o) was now same
         (λ r nu f. edit_goes i (λ nu. look key) was now here whole edits refl true 0 (λ nu. refl) (omega arith) (omega arith) r nu f
-            ∙ ap (λ x. goes x (placed nu now (r.base nu)) left) (found_in nu key props ∙ ap (option_map (val_in nu)) e))
+        ∙ ap (λ x. goes x (placed nu now (r.base nu)) left) (found_in nu key props ∙ ap (option_map (val_in nu)) e))
 
     pub looks_none : own cells.now i key ≡ None → Turns (λ nu w. after_touch (path_in place.branch) (slot (nu i) shape) w) (length cells.now) slots after
         → Works (λ nu. step (change true (nu i) (look key)) give) (λ nu. Says None) (core cells slots place outer left) (core cells after place outer left)
@@ -118,8 +118,8 @@ module _ (cells : Held) (place : Place) (outer : List Place) (left : ℕ) (whole
         let u = some_of (own cells.now i key) there in
         let found_is = λ (nu : Naming). found_in nu key props ∙ ap (option_map (val_in nu)) u.1 in
         let w = λ (nu : Naming) (f : Fits nu (names_in cells.now)) (a : TellsApart nu (length cells.now)).
-            written slots after (λ nu. slot (nu i) (at key)) t nu f a
-            ∙ sym (put_some (path_in place.branch) (nu i) key (spec.props_in nu props) (named nu slots.keys slots.current) (val_in nu u.0) (val_in nu v) (found_is nu)) in
+        written slots after (λ nu. slot (nu i) (at key)) t nu f a
+        ∙ sym (put_some (path_in place.branch) (nu i) key (spec.props_in nu props) (named nu slots.keys slots.current) (val_in nu u.0) (val_in nu v) (found_is nu)) in
         let e = λ (nu : Naming). put key (val_in nu v) in
         let ps = set_value (key_eq key) props v in
         let new_are = λ (nu : Naming). sym (set_there nu key v props there) in
@@ -133,9 +133,9 @@ module _ (cells : Held) (place : Place) (outer : List Place) (left : ℕ) (whole
     creates v slots mid after more missing is t u =
         let found_is = λ (nu : Naming). found_in nu key props ∙ ap (option_map (val_in nu)) missing in
         let w = λ (nu : Naming) (f : Fits nu (names_in cells.now)) (a : TellsApart nu (length cells.now)).
-            written mid after (λ nu. slot (nu i) shape) u nu f a
-            ∙ ap (λ (w : Watch). after_write (path_in place.branch) (home (nu i)) (slot (nu i) shape) w) (written slots mid (λ nu. slot (nu i) (at key)) t nu f a)
-            ∙ sym (put_none (path_in place.branch) (nu i) key (spec.props_in nu props) (named nu slots.keys slots.current) (val_in nu v) (found_is nu)) in
+        written mid after (λ nu. slot (nu i) shape) u nu f a
+        ∙ ap (λ (w : Watch). after_write (path_in place.branch) (home (nu i)) (slot (nu i) shape) w) (written slots mid (λ nu. slot (nu i) (at key)) t nu f a)
+        ∙ sym (put_none (path_in place.branch) (nu i) key (spec.props_in nu props) (named nu slots.keys slots.current) (val_in nu v) (found_is nu)) in
         let e = λ (nu : Naming). put key (val_in nu v) in
         let ps = props ++ (key, v) ∷ [] in
         let new_are = λ (nu : Naming). sym (set_new nu key v props missing) in
@@ -150,9 +150,9 @@ module _ (cells : Held) (place : Place) (outer : List Place) (left : ℕ) (whole
         let v = some_of (own cells.now i key) there in
         let found_is = λ (nu : Naming). found_in nu key props ∙ ap (option_map (val_in nu)) v.1 in
         let w = λ (nu : Naming) (f : Fits nu (names_in cells.now)) (a : TellsApart nu (length cells.now)).
-            written mid after (λ nu. slot (nu i) shape) u nu f a
-            ∙ ap (λ (w : Watch). after_write (path_in place.branch) (home (nu i)) (slot (nu i) shape) w) (written slots mid (λ nu. slot (nu i) (at key)) t nu f a)
-            ∙ sym (remove_some (path_in place.branch) (nu i) key (spec.props_in nu props) (named nu slots.keys slots.current) (val_in nu v.0) (found_is nu)) in
+        written mid after (λ nu. slot (nu i) shape) u nu f a
+        ∙ ap (λ (w : Watch). after_write (path_in place.branch) (home (nu i)) (slot (nu i) shape) w) (written slots mid (λ nu. slot (nu i) (at key)) t nu f a)
+        ∙ sym (remove_some (path_in place.branch) (nu i) key (spec.props_in nu props) (named nu slots.keys slots.current) (val_in nu v.0) (found_is nu)) in
         let e = λ (nu : Naming). remove key in
         let ps = remove_entry (key_eq key) props in
         let new_are = λ (nu : Naming). sym (drop_in nu key props distinct) in
@@ -166,7 +166,7 @@ module _ (cells : Held) (place : Place) (outer : List Place) (left : ℕ) (whole
     drops_none missing =
         let found_is = λ (nu : Naming). found_in nu key props ∙ ap (option_map (val_in nu)) missing in
         let w = λ (nu : Naming) (f : Fits nu (names_in cells.now)) (a : TellsApart nu (length cells.now)).
-            t.now nu a ∙ sym (remove_none (path_in place.branch) (nu i) key (spec.props_in nu props) (named nu slots.keys slots.current) (found_is nu)) in
+        t.now nu a ∙ sym (remove_none (path_in place.branch) (nu i) key (spec.props_in nu props) (named nu slots.keys slots.current) (found_is nu)) in
         let e = λ (nu : Naming). remove key in
         let is = sym (with_same cells.now i) in
         let new_are = λ (nu : Naming). sym (drop_missing nu key props missing) in
@@ -176,7 +176,7 @@ module _ (cells : Held) (place : Place) (outer : List Place) (left : ℕ) (whole
     pub lists : Works (λ nu. step (change true (nu i) list) give) (λ nu. Says (std.keys_of (props_at cells.now i))) (core cells slots place outer left) (core cells after place outer left)
     lists =
         let w = λ (nu : Naming) (f : Fits nu (names_in cells.now)) (a : TellsApart nu (length cells.now)).
-            t.now nu a ∙ sym (list_watch (path_in place.branch) (nu i) (spec.props_in nu props) (named nu slots.keys slots.current)) in
+        t.now nu a ∙ sym (list_watch (path_in place.branch) (nu i) (spec.props_in nu props) (named nu slots.keys slots.current)) in
         let e = λ (nu : Naming). list in
         let is = sym (with_same cells.now i) in
         works_one (λ nu. step (change true (nu i) list) give) (λ nu. std.keys_of props) (core cells slots place outer left) (core cells after place outer left) (keeps slots after cells e props is (λ nu. refl) w)
@@ -202,8 +202,8 @@ module _ (old : Core) (whole : IsWhole old.cells.now) (i : ℕ) (here : i < coun
           did = λ nu fits.
               let a = tells nu old.cells.now whole (fits_before nu (names_in old.cells.now) (names_in new.cells.now) l.stays.grows fits) in
               subst (λ c. Did c (said nu) (placed nu new (r.base nu)) new.left)
-                (sym (paid_same (nu i) (put key (val_in nu v)) (path_in old.place.path) (path_in old.place.branch) r.body (placed nu old (r.base nu)) old.left
-                (ap (edit_cost (put key (val_in nu v))) (props_here nu old.cells.now a i here) ∙ cost_is nu) h))
-                (l.did nu fits);
+              (sym (paid_same (nu i) (put key (val_in nu v)) (path_in old.place.path) (path_in old.place.branch) r.body (placed nu old (r.base nu)) old.left
+              (ap (edit_cost (put key (val_in nu v))) (props_here nu old.cells.now a i here) ∙ cost_is nu) h))
+              (l.did nu fits);
         };
   }

@@ -95,10 +95,10 @@ module _ (nu : Naming) (cells : List Cell) (whole : IsWhole cells) (c : Cell) wh
       let ks = kinds ++ c.kind ∷ [] in
       let last : slice_get ks (length cells) ≡ Some c.kind = ap (slice_get ks) (sym long_kinds) ∙ get_last kinds c.kind in
       let same : (i : ℕ) → i < length cells → known_one nu ks i (slice_get ks i) ≡ known_one nu kinds i (slice_get kinds i) = λ i h.
-          let t = there kinds i (omega (arith, h, long_kinds)) in
-          ap (known_one nu ks i) (get_front kinds (c.kind ∷ []) i t.0 t.1)
-          ∙ ap (λ ch. Some (record { kind = kind_in nu t.0; chain = map nu ch })) (chain_push kinds whole.older c.kind (suc i) i (omega (arith, h, long_kinds)))
-          ∙ sym (ap (known_one nu kinds i) t.1) in
+      let t = there kinds i (omega (arith, h, long_kinds)) in
+      ap (known_one nu ks i) (get_front kinds (c.kind ∷ []) i t.0 t.1)
+      ∙ ap (λ ch. Some (record { kind = kind_in nu t.0; chain = map nu ch })) (chain_push kinds whole.older c.kind (suc i) i (omega (arith, h, long_kinds)))
+      ∙ sym (ap (known_one nu kinds i) t.1) in
       (λ x. all (map-append (λ (c : Cell). c.kind) cells (c ∷ []) x) (long x) m)
       ∙ (λ x. pick (name_eq m (nu (length cells))) (known_one nu ks (length cells) (last x)) (table_same nu None (λ i. known_one nu ks i (slice_get ks i)) (λ i. known_one nu kinds i (slice_get kinds i)) (length cells) same m x))
 
@@ -106,7 +106,7 @@ module _ (nu : Naming) (cells : List Cell) (whole : IsWhole cells) (c : Cell) wh
   props_push m =
       ap (λ n. table nu (λ i. props_in nu (props_at (cells ++ c ∷ []) i)) [] n m) long
       ∙ (λ x. pick (name_eq m (nu (length cells))) (props_in nu (last_at cells c x))
-          (table_same nu [] (λ i. props_in nu (props_at (cells ++ c ∷ []) i)) (λ i. props_in nu (props_at cells i)) (length cells) (λ i h. ap (props_in nu) (same_at cells c i h)) m x))
+      (table_same nu [] (λ i. props_in nu (props_at (cells ++ c ∷ []) i)) (λ i. props_in nu (props_at cells i)) (length cells) (λ i h. ap (props_in nu) (same_at cells c i h)) m x))
 
 module _ (c : Cell) (old new : Core) (whole : IsWhole old.cells.now) (h : Adds c old new) where
   names_push : names_in new.cells.now ≡ names_in old.cells.now ++ name_in c.name ∷ []

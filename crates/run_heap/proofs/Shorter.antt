@@ -390,12 +390,12 @@ module _ (i : ℕ) (old : Core) (whole : IsWhole old.cells.now) (here : i < coun
         let v = some_of (own old.cells.now i length_key) there in
         works_as old whole (λ nu. step (change true (nu i) (grow at)) give) (λ nu. step (change true (nu i) (put length_key (Number (pos n)))) give)
         (λ r nu apart.
-            let σ = placed nu old (r.base nu) in
-            let p : σ.props (nu i) ≡ spec.props_in nu at_i = props_here nu old.cells.now apart i here in
-            comes_grow (path_in old.place.path) (path_in old.place.branch) r.body (nu i) at (val_in nu v.0) σ old.left
-            (ap (λ q. grows_at at (found length_key q)) p ∙ found_is nu ∙ g)
-            (ap (found length_key) p ∙ found_in nu length_key at_i ∙ ap (option_map (val_in nu)) v.1)
-            ∙ ap (λ n. comes_from (step (change true (nu i) (put length_key (Number (pos n)))) give) nu (seen_in r old)) (sym q))
+        let σ = placed nu old (r.base nu) in
+        let p : σ.props (nu i) ≡ spec.props_in nu at_i = props_here nu old.cells.now apart i here in
+        comes_grow (path_in old.place.path) (path_in old.place.branch) r.body (nu i) at (val_in nu v.0) σ old.left
+        (ap (λ q. grows_at at (found length_key q)) p ∙ found_is nu ∙ g)
+        (ap (found length_key) p ∙ found_in nu length_key at_i ∙ ap (option_map (val_in nu)) v.1)
+        ∙ ap (λ n. comes_from (step (change true (nu i) (put length_key (Number (pos n)))) give) nu (seen_in r old)) (sym q))
         said last y
 
     pub grows_not : grows_in at (own old.cells.now i length_key) ≡ false → Works (λ nu. step (change true (nu i) (grow at)) give) (λ nu. Says tt) old old

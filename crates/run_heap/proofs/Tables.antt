@@ -156,7 +156,7 @@ module _ (nu : Naming) (cells : List Cell) (apart : TellsApart nu (length cells)
       let f = λ (j : ℕ). placed.props_in nu (props_at cells j) in
       let g = λ (j : ℕ). placed.props_in nu (props_at (held.with_props cells i ps) j) in
       let e = λ (m : Name). ap (λ n. table nu g [] n m) (count-with cells i ps)
-          ∙ table_set nu [] (length cells) apart f g i (placed.props_in nu ps) (ap (placed.props_in nu) (at_same cells i ps here)) (λ j h. ap (placed.props_in nu) (at_other cells i j ps h)) (length cells) here (omega arith) m in
+      ∙ table_set nu [] (length cells) apart f g i (placed.props_in nu ps) (ap (placed.props_in nu) (at_same cells i ps here)) (λ j h. ap (placed.props_in nu) (at_other cells i j ps h)) (length cells) here (omega arith) m in
       λ x m. e m x
 
 pub kind_there : (cells : List Cell) (i : ℕ) → i < length cells → (kind : CellKind) × (slice_get (kinds_of cells) i ≡ Some kind)

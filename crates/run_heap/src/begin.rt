@@ -12,12 +12,16 @@ use value_cells::{CellKind, CellName, Cells, Value};
 
 /// The keys `prototype`, `name` and `message`.
 const PROTOTYPE: [u16; 9] = [112, 114, 111, 116, 111, 116, 121, 112, 101];
+
 const NAME: [u16; 4] = [110, 97, 109, 101];
+
 const MESSAGE: [u16; 7] = [109, 101, 115, 115, 97, 103, 101];
 
 /// The names of the errors.
 const ERROR: [u16; 5] = [69, 114, 114, 111, 114];
+
 const TYPE_ERROR: [u16; 9] = [84, 121, 112, 101, 69, 114, 114, 111, 114];
+
 const REFERENCE_ERROR: [u16; 14] = [
     82, 101, 102, 101, 114, 101, 110, 99, 101, 69, 114, 114, 111, 114,
 ];

@@ -64,13 +64,7 @@ pub fn element_past(key: &Units, length: u32) -> Option<u32>
     ensures index { IfSome result (λ i. class_of key.now ≡ index i) }
 {
     match class(key.as_slice()) {
-        KeyClass::Index(index) => {
-            if index < length {
-                None
-            } else {
-                Some(index)
-            }
-        }
+        KeyClass::Index(index) => { if index < length { None } else { Some(index) } }
         KeyClass::Past => None,
         KeyClass::Named => None,
     }
@@ -115,12 +109,7 @@ fn place_of(keys: &[Units], at: u32, lowest: u32) -> usize
 /// Puts an element's key before those of lower index. All that are there have at least the index
 /// `lowest`, so that where the elements come with falling indexes the list isn't looked through.
 /// After NoMemory nothing changed.
-pub fn add_down(
-    keys: &mut Vec<Units>,
-    key: Units,
-    at: u32,
-    lowest: u32,
-) -> Result<(), NoMemory>
+pub fn add_down(keys: &mut Vec<Units>, key: Units, at: u32, lowest: u32) -> Result<(), NoMemory>
     requires from { AllFrom lowest keys.old.items }
     requires class { class_of key ≡ index at }
     ensures ok { OnOk result (keys.new.items ≡ put_down key keys.old.items) }

@@ -24,7 +24,6 @@ use Rattle.run_heap.proofs.RunHeap.set.Goals as goal
 pub returns-in_err-pay-clause-did : goal.returns-in_err-pay-clause-did
 returns-in_err-pay-clause-did c =
     let old = c.args.self.now in
-
     let h = c.in_err-pay.ensures.spent in
     err_exit (λ nu. step (change true (nu c.args.cell) (put c.args.key.now (val_in nu c.args.value))) give) (λ nu u. u) c.from_residual.result c.in_err-pay.field-0.0 old c.pay.new.self c.from_residual.ensures.1
     (subst (λ e. Works (λ nu. step (change true (nu c.args.cell) (put c.args.key.now (val_in nu c.args.value))) give) (λ nu. told_stop e) old c.pay.new.self) (sym h.0)
