@@ -64,8 +64,8 @@ with_note bytes stop out note e f g o n = no_tree bytes stop _ e
 pub answer_memory : (bytes : List ℕ) (a : Answer) → a ≡ nothing Memory → IsAnswerOf bytes a
 answer_memory bytes a is = subst (λ x. IsAnswerOf bytes x) (sym is) memory_for_note
 
-pub answer_tree : (bytes : List ℕ) (script : tree.Script) (size : ℕ) (a : Answer) → IsRead bytes (Ok script) → size ≡ length bytes → IsAnswerOn size script a → IsAnswerOf bytes a
-answer_tree bytes script size a e same on = read e (subst (λ n. IsAnswerOn n script a) same on)
+pub answer_tree : (bytes : List ℕ) (script lent : tree.Script) (size : ℕ) (a : Answer) → IsRead bytes (Ok script) → lent ≡ script → size ≡ length bytes → IsAnswerOn size lent a → IsAnswerOf bytes a
+answer_tree bytes script lent size a e is same on = read e (subst (λ n. IsAnswerOn n script a) same (subst (λ x. IsAnswerOn size x a) is on))
 
 -- ---- the source
 
