@@ -1,5 +1,5 @@
 -- How the top call's steps give its answer.
-use Rattle.std.proofs.Common.{◌≡◌, ℕ, ◌≤◌, List, [], take, length, Bool, true, false, Option, Ok, Err, ◌<◌, refl, arith, sym, ap, subst, ◌∙◌}
+use Rattle.std.proofs.Common.{◌≡◌, ℕ, ◌≤◌, List, [], take, length, Bool, true, false, Option, Ok, Err, ◌<◌, refl, sym, ap, subst, ◌∙◌}
 use Rattle.std.specs.Io.KnownBytes.{Appends, Consumes, IsAtEnd}
 use Rattle.outside.specs.Faults.{Rose}
 use Rattle.outside.specs.Reading.{HasCause}
@@ -21,11 +21,8 @@ use Rattle.turkit_top.specs.declared.top.Answer.{Answer}
 
 -- ---- the tree
 
-on_ran : (size : ℕ) (script : tree.Script) (r : Ran) (a : Answer) → size ≤ 65536 → ((ss : List Statement) × IsSmall script ss × (r ≡ writes [] ss)) → a ≡ ending r → IsAnswerOn size script a
-on_ran size script r a few (ss, small, e) is = subst (λ x. IsAnswerOn size script x) (sym (is ∙ ap ending e)) (ran few small)
-
-pub tree_ran : (size : ℕ) (script : tree.Script) (r : Ran) (a : Answer) → (65536 < size → ⊥) → ((ss : List Statement) × IsSmall script ss × (r ≡ writes [] ss)) → a ≡ ending r → IsAnswerOn size script a
-tree_ran size script r a few found is = on_ran size script r a (omega (arith, few)) found is
+pub tree_ran : (size : ℕ) (script : tree.Script) (r : Ran) (a : Answer) → size ≤ 65536 → ((ss : List Statement) × IsSmall script ss × (r ≡ writes [] ss)) → a ≡ ending r → IsAnswerOn size script a
+tree_ran size script r a few (ss, small, e) is = subst (λ x. IsAnswerOn size script x) (sym (is ∙ ap ending e)) (ran few small)
 
 pub tree_long : (size : ℕ) (script : tree.Script) (a : Answer) → 65536 < size → a ≡ nothing NotBuilt → IsAnswerOn size script a
 tree_long size script a many is = subst (λ x. IsAnswerOn size script x) (sym is) (long many)

@@ -111,7 +111,7 @@ fn answer_of(alloc: Global, bytes: &[u8]) -> Answer
     ensures { IsAnswerOf bytes.now result }
 {
     match read_script(alloc, bytes) {
-        Ok(script) => answer_on(alloc, bytes.len(), script.script()),
+        Ok(found) => answer_on(alloc, bytes.len(), found.script()),
         Err(stop) => refused(alloc, bytes, stop),
     }
 }
