@@ -14,22 +14,23 @@ use Rattle.script_grammar.proofs.Tokens.{live_word}
 use Rattle.part_rows.proofs.Joints.{refuses_end, onward, ended, halted, jumped, ended_name}
 use Rattle.statement_rows.specs.Rests.{do_rule, else_rule, second_rule, test_rule, TookTest, MissesTest}
 use Rattle.statement_rows.proofs.Endings.{unended, unhalted, unjumped, unended_name, from_none, from_none_err, within, within_err, tested, opened_deep, begins_end}
+use Rattle.statement_rows.proofs.Truths.{was_false, was_true}
 use Rattle.statement_rows.proofs.continue_statement.Goals as goal
 
 pub returns-in_err-token-clause-meets : goal.returns-in_err-token-clause-meets
 returns-in_err-token-clause-meets c = handed (Statement c.args.around) c.args.base (statement_as c.args.around start.Continue) c.args.tokens.now c.from_residual.result c.from_residual.ensures.1
-    (λ not. no _ c.if-not-around.true (refuses_end c.in_err-token.ensures.0 c.in_err-token.ensures.1))
+    (λ not. no _ (was_false _ c.if-not-around.true) (refuses_end c.in_err-token.ensures.0 c.in_err-token.ensures.1))
 
 pub returns-then-not-around-clause-meets : goal.returns-then-not-around-clause-meets
-returns-then-not-around-clause-meets c not = row (no _ c.if-not-around.true (refuses c.in_ok-token.ensures c.refused.ensures))
+returns-then-not-around-clause-meets c not = row (no _ (was_false _ c.if-not-around.true) (refuses c.in_ok-token.ensures c.refused.ensures))
 
 pub returns-in_err-stood-clause-meets : goal.returns-in_err-stood-clause-meets
 returns-in_err-stood-clause-meets c = handed (Statement c.args.around) c.args.base (statement_as c.args.around start.Continue) c.args.tokens.now c.from_residual-in_err-stood.result c.from_residual-in_err-stood.ensures.1
-    (λ not. yes _ c.if-not-around.false (c.in_err-stood.ensures.stands.row (Statement c.args.around) 0 (jump s.Continue)))
+    (λ not. yes _ (was_true _ c.if-not-around.false) (c.in_err-stood.ensures.stands.row (Statement c.args.around) 0 (jump s.Continue)))
 
 pub returns-in_err-ended-clause-meets : goal.returns-in_err-ended-clause-meets
 returns-in_err-ended-clause-meets c = handed (Statement c.args.around) c.args.base (statement_as c.args.around start.Continue) c.args.tokens.now c.from_residual-in_err-ended.result c.from_residual-in_err-ended.ensures.1
-    (λ not. yes _ c.if-not-around.false (c.in_ok-stood.ensures.stands.row (Statement c.args.around) 0 (jump s.Continue) _ (unjumped s.Continue c.in_err-ended.ensures)))
+    (λ not. yes _ (was_true _ c.if-not-around.false) (c.in_ok-stood.ensures.stands.row (Statement c.args.around) 0 (jump s.Continue) _ (unjumped s.Continue c.in_err-ended.ensures)))
 
 pub returns-clause-meets : goal.returns-clause-meets
-returns-clause-meets c = row (yes _ c.if-not-around.false (c.in_ok-stood.ensures.stands.row (Statement c.args.around) 0 (jump s.Continue) _ (jumped c.continue_loop.ensures (omega arith) c.in_ok-ended.ensures)))
+returns-clause-meets c = row (yes _ (was_true _ c.if-not-around.false) (c.in_ok-stood.ensures.stands.row (Statement c.args.around) 0 (jump s.Continue) _ (jumped c.continue_loop.ensures (omega arith) c.in_ok-ended.ensures)))

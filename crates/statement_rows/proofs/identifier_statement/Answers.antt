@@ -24,7 +24,7 @@ returns-in_err-value-clause-meets g c = handed (Statement c.args.around) c.args.
     (λ not. fails (c.in_err-value.ensures.meets not))
 
 pub returns-in-Ok-clause-meets : goal.returns-in-Ok-clause-meets
-returns-in-Ok-clause-meets g c = row (passes c.in_ok-value.ensures.meets (ended_name c.expression-2.ensures (omega arith) c.in-Ok.ensures))
+returns-in-Ok-clause-meets g c = row (passes c.in_ok-value.ensures.meets (ended_name c.expression-in-Ok.ensures (omega arith) c.in-Ok.ensures))
 
 pub returns-in-Err-clause-meets : goal.returns-in-Err-clause-meets
 returns-in-Err-clause-meets g c not = row (passes c.in_ok-value.ensures.meets (unended_name c.in-Err.ensures))

@@ -28,7 +28,7 @@ returns-in_err-value-clause-meets g c = handed (Statement c.args.around) c.args.
     (λ not. begins_with {k = 1} c.in_ok-first.ensures (omega arith) (fails (c.in_err-value.ensures.meets not)))
 
 pub returns-in-Ok-clause-meets : goal.returns-in-Ok-clause-meets
-returns-in-Ok-clause-meets g c = row (begins_with {k = 1} c.in_ok-first.ensures (omega arith) (passes c.in_ok-value.ensures.meets (ended c.expression-2.ensures (omega arith) c.in-Ok.ensures)))
+returns-in-Ok-clause-meets g c = row (begins_with {k = 1} c.in_ok-first.ensures (omega arith) (passes c.in_ok-value.ensures.meets (ended c.expression-in-Ok.ensures (omega arith) c.in-Ok.ensures)))
 
 pub returns-in-Err-clause-meets : goal.returns-in-Err-clause-meets
 returns-in-Err-clause-meets g c not = row (begins_with {k = 1} c.in_ok-first.ensures (omega arith) (passes c.in_ok-value.ensures.meets (unended (s.Expression _) c.in-Err.ensures)))
