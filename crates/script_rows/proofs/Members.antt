@@ -48,11 +48,11 @@ module _ {c : Context} {stood : Bool} {b height : ℕ} {one : clause.Case} {ts a
     stops = λ e g. row (peeks next (yes _ q (eats (live_word w.Case t q) next (took.row (Clauses c stood so_far) 0 (With c stood stood so_far) _ (fails_level g)))));
   }
 
-  case_after : TookCase c b after one height rest → length rest ≤ length after
-  case_after took = shorter (row (took.row (Clauses c stood []) 0 (λ x. give (x ∷ [])) _ (gives {v = one ∷ []} {k = max 0 height} refl refl)))
+case_after : {c : Context} {b height : ℕ} {one : clause.Case} {after rest : List Token} → TookCase c b after one height rest → length rest ≤ length after
+case_after {c} {height = height} {one = one} took = shorter (row (took.row (Clauses c false []) 0 (λ x. give (x ∷ [])) _ (gives {v = one ∷ []} {k = max 0 height} refl refl)))
 
-  pub case_shorter : TookCase c b after one height rest → length rest < length ts
-  case_shorter took = omega (arith, ap length next, case_after took)
+pub case_shorter : {c : Context} {b height : ℕ} {one : clause.Case} {ts after rest : List Token} {t : Token} → ts ≡ t ∷ after → TookCase c b after one height rest → length rest < length ts
+case_shorter next took = omega (arith, ap length next, case_after took)
 
 module _ {c : Context} {stood : Bool} {b height : ℕ} {body : List Stmt} {ts after rest : List Token} {t : Token} (next : ts ≡ t ∷ after) (first : is_word w.Case t ≡ false) where
   pub turn_default : is_word w.Default t && not stood ≡ true → TookBody c b after body height rest → (one : clause.Case) → one ≡ case_of None body → (so_far : List clause.Case)
@@ -62,27 +62,27 @@ module _ {c : Context} {stood : Bool} {b height : ℕ} {body : List Stmt} {ts af
     stops = λ e g. row (peeks next (no _ first (yes _ q (eats (live_word w.Default t (left_true _ _ q)) next (took.row (Clauses c stood so_far) 0 (λ x. With c stood true so_far (case_of None x)) _ (fails_level g))))));
   })
 
-  body_after : TookBody c b after body height rest → length rest ≤ length after
-  body_after took = shorter (row (took.row (Statements c []) 0 (λ x. give x) _ (gives {v = body} {k = max 0 height} refl refl)))
+body_after : {c : Context} {b height : ℕ} {body : List Stmt} {after rest : List Token} → TookBody c b after body height rest → length rest ≤ length after
+body_after {c} {height = height} {body = body} took = shorter (row (took.row (Statements c []) 0 (λ x. give x) _ (gives {v = body} {k = max 0 height} refl refl)))
 
-  pub default_shorter : TookBody c b after body height rest → length rest < length ts
-  default_shorter took = omega (arith, ap length next, body_after took)
+pub default_shorter : {c : Context} {b height : ℕ} {body : List Stmt} {ts after rest : List Token} {t : Token} → ts ≡ t ∷ after → TookBody c b after body height rest → length rest < length ts
+default_shorter next took = omega (arith, ap length next, body_after took)
 
 pub again_clauses : {c : Context} {b tall height : ℕ} {stood stands : Bool} {so_far : List clause.Case} {one : clause.Case} {ts all rest : List Token}
     → Turns c b stood false so_far [] tall ts all → TookClause c stood b ts one stands height rest
     → (more : List clause.Case) (high : ℕ) → more ≡ so_far ++ one ∷ [] → high ≡ max tall height → Turns c b stands false more [] high rest all
 again_clauses {c} {b} {stands = stands} {so_far = so_far} {all = all} {rest = rest} turns took more high e q = subst (λ x. Turns c b stands false x [] high rest all) (sym e) (chain turns (took.row so_far) q)
 
-pub body_of : {c : Context} {b : ℕ} {ts after : List Token} (r : Result (List Stmt × ℕ × Bor (List Token)) Stop) → Took m.Colon ts after → Meets (Statements c []) b after r
+pub body_of : (c : Context) (b : ℕ) {ts after : List Token} (r : Result (List Stmt × ℕ × Bor (List Token)) Stop) → Took m.Colon ts after → Meets (Statements c []) b after r
     → MatchResult r (λ p. TookBody c b ts p.0 p.1 p.2.now) (λ e. e ≢ Memory → MissesBody c b ts e)
-body_of (Ok p) colon f = record { row = λ n h rule o x. expects colon (passes_level f x) }
-body_of (Err e) colon f = λ never. record { row = λ n h rule. expects colon (fails_level (f never)) }
+body_of c b (Ok p) colon f = record { row = λ n h rule o x. expects colon (passes_level f x) }
+body_of c b (Err e) colon f = λ never. record { row = λ n h rule. expects colon (fails_level (f never)) }
 
 -- ---- a statement by its first token
 
-pub as_block : {c : Context} {b : ℕ} {ts : List Token} (r : Result (Stmt × ℕ × Bor (List Token)) Stop) → Meets (Block c) b ts r → Follows (Statement c) b (as_read (Block c) (λ v. v)) ts r
-as_block (Ok p) f = row (passes_level f (gives refl (omega arith)))
-as_block (Err e) f = λ never. row (fails_level (f never))
+pub as_block : (c : Context) (b : ℕ) (ts : List Token) (r : Result (Stmt × ℕ × Bor (List Token)) Stop) → Meets (Block c) b ts r → Follows (Statement c) b (as_read (Block c) (λ v. v)) ts r
+as_block c b ts (Ok p) f = row (passes_level f (gives refl (omega arith)))
+as_block c b ts (Err e) f = λ never. row (fails_level (f never))
 
 other_block : start.Block ≡ start.Parenthesis → ⊥
 other_block e = cc

@@ -3,7 +3,7 @@
 ghost use Rattle.std.specs.Prelude.{◌≢◌, ◌≤◌, ◌+◌, Bool, true, false, [], MatchResult, IfOk};
 ghost use Rattle.part_rows.specs.Lines.{Exprs};
 ghost use Rattle.script_grammar.specs.Meets.{Assigns, Bodies, Ones, Meets};
-ghost use Rattle.script_grammar.specs.Rules.Symbol as symbol;
+ghost use Rattle.script_grammar.specs.Rules.{Symbol as symbol};
 ghost use Rattle.script_grammar.specs.Rules.Symbol.{Elements};
 ghost use Rattle.script_grammar.specs.declared.stop.Stop.TheVariants.{Memory};
 ghost use Rattle.script_rows.specs.Parts.{TookElement, MissesElement};

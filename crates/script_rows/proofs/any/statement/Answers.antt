@@ -31,7 +31,7 @@ returns-in_err-token-clause-meets g c = handed (Statement c.args.around) c.args.
     (λ not. peeks_end c.in_err-token.ensures.0 c.in_err-token.ensures.1)
 
 pub returns-in-Block-clause-meets : goal.returns-in-Block-clause-meets
-returns-in-Block-clause-meets g c = along.onward {n = (Statement c.args.around)} {b = c.args.base} {r = statement_as c.args.around start.Block} {s = grammar (Statement c.args.around)} c.block.result (λ o x. peeks c.in_ok-token.ensures (by (statement_as c.args.around) c.in-Block.ensures x)) (as_block c.block.result c.block.ensures.meets)
+returns-in-Block-clause-meets g c = along.onward {n = (Statement c.args.around)} {b = c.args.base} {r = statement_as c.args.around start.Block} {s = grammar (Statement c.args.around)} c.block.result (λ o x. peeks c.in_ok-token.ensures (by (statement_as c.args.around) c.in-Block.ensures x)) (as_block c.args.around c.args.base c.args.tokens.now c.block.result c.block.ensures.meets)
 
 pub returns-in-Var-clause-meets : goal.returns-in-Var-clause-meets
 returns-in-Var-clause-meets g c = along.onward {n = (Statement c.args.around)} {b = c.args.base} {r = statement_as c.args.around start.Var} {s = grammar (Statement c.args.around)} c.var_statement.result (λ o x. peeks c.in_ok-token.ensures (by (statement_as c.args.around) c.in-Var.ensures x)) c.var_statement.ensures.meets

@@ -31,4 +31,4 @@ returns-in_err-then-clause-takes g c = handed_on (λ p. TookBody c.args.around c
     c.from_residual.result c.from_residual.ensures.1 (λ not. record { row = λ n h rule. misses m.Colon (read 0 (Statements c.args.around []) (λ body _. rule body)) c.in_err-then.ensures })
 
 pub returns-clause-takes : goal.returns-clause-takes
-returns-clause-takes g c = body_of c.statements.result c.in_ok-then.ensures c.statements.ensures.meets
+returns-clause-takes g c = body_of c.args.around c.args.base c.statements.result c.in_ok-then.ensures c.statements.ensures.meets

@@ -45,7 +45,7 @@ returns-in_err-body-clause-takes g c = handed_on (λ o. MatchOption o (λ p. Too
     c.from_residual-in_err-body.result c.from_residual-in_err-body.ensures.1 (λ not. record { row = λ so_far. row (peeks c.in_ok-token.ensures (no _ (sym c.is_word.ensures ∙ c.if-is_word.false) (yes _ (sym c.defaults.ensures ∙ c.if-defaults.true) (eats (live_word w.Default _ (left_true _ _ (sym c.defaults.ensures ∙ c.if-defaults.true))) c.in_ok-token.ensures ((c.in_err-body.ensures.takes not).row (Clauses c.args.around c.args.stood so_far) 0 (λ x. With c.args.around c.args.stood true so_far (case_of None x))))))) })
 
 pub returns-then-defaults-clause-takes : goal.returns-then-defaults-clause-takes
-returns-then-defaults-clause-takes g c = record { row = turn_default c.in_ok-token.ensures (sym c.is_word.ensures ∙ c.if-is_word.false) (sym c.defaults.ensures ∙ c.if-defaults.true) c.in_ok-body.ensures.takes _ c.case.ensures; shorter = default_shorter c.in_ok-token.ensures (sym c.is_word.ensures ∙ c.if-is_word.false) c.in_ok-body.ensures.takes }
+returns-then-defaults-clause-takes g c = record { row = turn_default c.in_ok-token.ensures (sym c.is_word.ensures ∙ c.if-is_word.false) (sym c.defaults.ensures ∙ c.if-defaults.true) c.in_ok-body.ensures.takes _ c.case.ensures; shorter = default_shorter c.in_ok-token.ensures c.in_ok-body.ensures.takes }
 
 pub returns-then-is-clause-takes : goal.returns-then-is-clause-takes
 returns-then-is-clause-takes g c = record { row = λ so_far. row (peeks c.in_ok-token.ensures (no _ (sym c.is_word.ensures ∙ c.if-is_word.false) (no _ (sym c.defaults.ensures ∙ c.if-defaults.false) (yes _ (sym c.is.ensures ∙ c.if-is.true) (gives refl refl))))) }
