@@ -27,16 +27,16 @@ use Rattle.script_rows.proofs.Members.{turn_case, case_shorter, turn_default, de
 use Rattle.script_rows.proofs.switches.clauses.Goals as goal
 
 pub returns-in-Ok-None-clause-meets : goal.returns-in-Ok-None-clause-meets
-returns-in-Ok-None-clause-meets g c = at_last c.loop-all.invariant.so_far refl (c.in-Ok-None.ensures.takes.row _)
+returns-in-Ok-None-clause-meets g c = at_last c.loop-case.invariant.so_far refl (c.in-Ok-None.ensures.takes.row _)
 
 pub returns-in-Err-clause-meets : goal.returns-in-Err-clause-meets
-returns-in-Err-clause-meets g c not = c.loop-all.invariant.so_far.stops _ ((c.in-Err.ensures.takes not).row _)
+returns-in-Err-clause-meets g c not = c.loop-case.invariant.so_far.stops _ ((c.in-Err.ensures.takes not).row _)
 
-pub loop-all-smaller : goal.loop-all-smaller
-loop-all-smaller g c = c.in-Ok-Some.ensures.takes.shorter
+pub loop-case-smaller : goal.loop-case-smaller
+loop-case-smaller g c = c.in-Ok-Some.ensures.takes.shorter
 
-pub loop-all-preserved : goal.loop-all-preserved
-loop-all-preserved g c = record {
-  so_far = again_clauses c.loop-all.invariant.so_far c.in-Ok-Some.ensures.takes _ _ c.in_ok-cases_with.ensures (search rules);
+pub loop-case-preserved : goal.loop-case-preserved
+loop-case-preserved g c = record {
+  so_far = again_clauses c.loop-case.invariant.so_far c.in-Ok-Some.ensures.takes _ _ c.in_ok-all-in-Ok-Some.ensures (search rules);
   small = search rules;
 }
