@@ -73,6 +73,9 @@ pub again_clauses : {c : Context} {b tall height : ℕ} {stood stands : Bool} {s
     → (more : List clause.Case) (high : ℕ) → more ≡ so_far ++ one ∷ [] → high ≡ max tall height → Turns c b stands false more [] high rest all
 again_clauses {c} {b} {stands = stands} {so_far = so_far} {all = all} {rest = rest} turns took more high e q = subst (λ x. Turns c b stands false x [] high rest all) (sym e) (chain turns (took.row so_far) q)
 
+pub fits : (b tall height high : ℕ) → b + tall ≤ 200 → b + height ≤ 200 → high ≡ max tall height → b + high ≤ 200
+fits b tall height high p q e = omega arith
+
 pub body_of : (c : Context) (b : ℕ) {ts after : List Token} (r : Result (List Stmt × ℕ × Bor (List Token)) Stop) → Took m.Colon ts after → Meets (Statements c []) b after r
     → MatchResult r (λ p. TookBody c b ts p.0 p.1 p.2.now) (λ e. e ≢ Memory → MissesBody c b ts e)
 body_of c b (Ok p) colon f = record { row = λ n h rule o x. expects colon (passes_level f x) }

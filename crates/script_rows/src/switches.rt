@@ -45,7 +45,7 @@ pub fn switch_statement<
     let stood = stand(base, 1, tokens)?;
     let (value, one, rest) = in_parentheses(below, base, stood)?;
     match in_braces(below, switched(around), base, rest) {
-        Ok((all, two, done)) => Ok((stmts::switch(value, all), one.max(two), done)),
+        Ok((all, two, done)) => Ok((stmts::switch(value, all), one.max(two).max(1), done)),
         Err(stop) => {
             drops::expr(value);
             Err(stop)
@@ -150,7 +150,7 @@ pub fn clause<
     requires depth { below.now.depth ≤ base }
     requires base { base ≤ 200 }
     ensures takes { MatchResult result
-        (λ o. MatchOption o (λ p. TookClause around stood base tokens.now p.0 p.1 p.2 p.3.now) (NoClause around stood base tokens.now))
+        (λ o. MatchOption o (NoClause around stood base tokens.now) (λ p. TookClause around stood base tokens.now p.0 p.1 p.2 p.3.now))
         (λ e. e ≢ Memory → MissesClause around stood base tokens.now e) }
     ensures small { IfOk result (λ o. IfSome o (λ p. base + p.2 ≤ 200)) }
 {

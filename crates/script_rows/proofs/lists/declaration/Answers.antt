@@ -45,7 +45,7 @@ returns-in_err-units-clause-meets g c = handed Declaration c.args.base (grammar 
 
 pub returns-in_err-names-clause-meets : goal.returns-in_err-names-clause-meets
 returns-in_err-names-clause-meets g c = handed Declaration c.args.base (grammar Declaration) c.args.tokens.now c.from_residual-in_err-names.result c.from_residual-in_err-names.ensures.1
-    (λ not. peeks c.in_ok-token.ensures (yes (refuse None) (sym c.is_word.ensures ∙ c.if-not-is_word.false) (rises {k = 1} (live_word w.Function _ (sym c.is_word.ensures ∙ c.if-not-is_word.false)) c.in_ok-token.ensures (omega arith) (c.in_ok-units.ensures.row Declaration c.args.base _ parts _ ((c.in_err-names.ensures.takes not).row Declaration _ (λ names body. give (declaration_of _ names body)))))))
+    (λ not. peeks c.in_ok-token.ensures (yes (refuse None) (sym c.is_word.ensures ∙ c.if-not-is_word.false) (rises {k = 1} (live_word w.Function _ (sym c.is_word.ensures ∙ c.if-not-is_word.false)) c.in_ok-token.ensures (omega arith) (c.in_ok-units.ensures.row Declaration c.args.base _ parts _ ((c.in_err-names.ensures.takes not).row Declaration _ (λ names body. give (declaration_of c.in_ok-units.units names body)))))))
 
 pub returns-clause-meets : goal.returns-clause-meets
-returns-clause-meets g c = row (peeks c.in_ok-token.ensures (yes (refuse None) (sym c.is_word.ensures ∙ c.if-not-is_word.false) (rises {k = 1} (live_word w.Function _ (sym c.is_word.ensures ∙ c.if-not-is_word.false)) c.in_ok-token.ensures (omega arith) (c.in_ok-units.ensures.row Declaration c.args.base _ parts _ (c.in_ok-names.ensures.takes.row Declaration _ (λ names body. give (declaration_of _ names body)) _ (gives c.make.ensures (omega arith)))))))
+returns-clause-meets g c = row (peeks c.in_ok-token.ensures (yes (refuse None) (sym c.is_word.ensures ∙ c.if-not-is_word.false) (rises {k = 1} (live_word w.Function _ (sym c.is_word.ensures ∙ c.if-not-is_word.false)) c.in_ok-token.ensures (omega arith) (c.in_ok-units.ensures.row Declaration c.args.base _ parts _ (c.in_ok-names.ensures.takes.row Declaration _ (λ names body. give (declaration_of c.in_ok-units.units names body)) _ (gives c.make.ensures (omega arith)))))))

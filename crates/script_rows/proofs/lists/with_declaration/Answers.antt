@@ -26,8 +26,8 @@ use Rattle.script_rows.specs.Parts.{clauses_rule, TookClauses, MissesClauses, ca
 use Rattle.script_rows.proofs.Members.{turn_case, case_shorter, turn_default, default_shorter, again_clauses, body_of, as_block, opened, declared, stated, undeclared, unstated}
 use Rattle.script_rows.proofs.lists.with_declaration.Goals as goal
 
-pub returns-in-Ok-Ok-clause-takes : goal.returns-in-Ok-Ok-clause-takes
-returns-in-Ok-Ok-clause-takes g c f = declared _ c.in-Ok-Ok.ensures c.in-Ok.ensures.meets
+pub returns-in-Ok-declarations_with-clause-takes : goal.returns-in-Ok-declarations_with-clause-takes
+returns-in-Ok-declarations_with-clause-takes g c f = declared _ c.in-Ok-declarations_with.ensures c.in-Ok.ensures.meets
 
 pub returns-in-Err-clause-takes : goal.returns-in-Err-clause-takes
 returns-in-Err-clause-takes g c f not = undeclared (c.in-Err.ensures.meets not)

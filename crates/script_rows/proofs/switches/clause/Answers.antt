@@ -1,4 +1,4 @@
-use Rattle.std.proofs.Common.{◌≡◌, ◌≢◌, sym, ◌∙◌, arith, rules, refl, Some, None, true, false, [], ◌∷◌, ◌++◌, ℕ, max, List, MatchResult, MatchOption, subst}
+use Rattle.std.proofs.Common.{◌≡◌, ◌≢◌, Bool, sym, ◌∙◌, arith, rules, refl, Some, None, true, false, [], ◌∷◌, ◌++◌, ℕ, max, List, MatchResult, MatchOption, subst}
 use Rattle.js_lexer.specs.declared.Mark.TheVariants as m
 use Rattle.js_lexer.specs.declared.Reserved.TheVariants as w
 use Rattle.js_tree.specs.declared.Case as clause
@@ -26,22 +26,22 @@ use Rattle.script_rows.specs.Parts.{clauses_rule, TookClauses, MissesClauses, ca
 use Rattle.script_rows.proofs.Members.{turn_case, case_shorter, turn_default, default_shorter, again_clauses, body_of, as_block, opened, declared, stated, undeclared, unstated}
 use Rattle.script_rows.proofs.switches.clause.Goals as goal
 
-abbrev With : (c : Context) (stood stands : _) (so_far : List clause.Case) → clause.Case → Rule (Clauses c stood so_far)
+abbrev With : (c : Context) (stood stands : Bool) (so_far : List clause.Case) → clause.Case → Rule (Clauses c stood so_far)
 With c stood stands so_far one = as_read (Clauses c stands (so_far ++ one ∷ [])) (λ v. v)
 
 pub returns-in_err-token-clause-takes : goal.returns-in_err-token-clause-takes
-returns-in_err-token-clause-takes g c = handed_on (λ o. MatchOption o (λ p. TookClause c.args.around c.args.stood c.args.base c.args.tokens.now p.0 p.1 p.2 p.3.now) (NoClause c.args.around c.args.stood c.args.base c.args.tokens.now)) (λ e. e ≢ Memory → MissesClause c.args.around c.args.stood c.args.base c.args.tokens.now e)
+returns-in_err-token-clause-takes g c = handed_on (λ o. MatchOption o (NoClause c.args.around c.args.stood c.args.base c.args.tokens.now) (λ p. TookClause c.args.around c.args.stood c.args.base c.args.tokens.now p.0 p.1 p.2 p.3.now)) (λ e. e ≢ Memory → MissesClause c.args.around c.args.stood c.args.base c.args.tokens.now e)
     c.from_residual.result c.from_residual.ensures.1 (λ not. record { row = λ so_far. row (peeks_end c.in_err-token.ensures.0 c.in_err-token.ensures.1) })
 
 pub returns-in_err-case-clause-takes : goal.returns-in_err-case-clause-takes
-returns-in_err-case-clause-takes g c = handed_on (λ o. MatchOption o (λ p. TookClause c.args.around c.args.stood c.args.base c.args.tokens.now p.0 p.1 p.2 p.3.now) (NoClause c.args.around c.args.stood c.args.base c.args.tokens.now)) (λ e. e ≢ Memory → MissesClause c.args.around c.args.stood c.args.base c.args.tokens.now e)
+returns-in_err-case-clause-takes g c = handed_on (λ o. MatchOption o (NoClause c.args.around c.args.stood c.args.base c.args.tokens.now) (λ p. TookClause c.args.around c.args.stood c.args.base c.args.tokens.now p.0 p.1 p.2 p.3.now)) (λ e. e ≢ Memory → MissesClause c.args.around c.args.stood c.args.base c.args.tokens.now e)
     c.from_residual-in_err-case.result c.from_residual-in_err-case.ensures.1 (λ not. record { row = λ so_far. row (peeks c.in_ok-token.ensures (yes _ (sym c.is_word.ensures ∙ c.if-is_word.true) (eats (live_word w.Case _ (sym c.is_word.ensures ∙ c.if-is_word.true)) c.in_ok-token.ensures ((c.in_err-case.ensures.takes not).row (Clauses c.args.around c.args.stood so_far) 0 (With c.args.around c.args.stood c.args.stood so_far))))) })
 
 pub returns-then-is_word-clause-takes : goal.returns-then-is_word-clause-takes
 returns-then-is_word-clause-takes g c = record { row = turn_case c.in_ok-token.ensures (sym c.is_word.ensures ∙ c.if-is_word.true) c.in_ok-case.ensures.takes; shorter = case_shorter c.in_ok-token.ensures c.in_ok-case.ensures.takes }
 
 pub returns-in_err-body-clause-takes : goal.returns-in_err-body-clause-takes
-returns-in_err-body-clause-takes g c = handed_on (λ o. MatchOption o (λ p. TookClause c.args.around c.args.stood c.args.base c.args.tokens.now p.0 p.1 p.2 p.3.now) (NoClause c.args.around c.args.stood c.args.base c.args.tokens.now)) (λ e. e ≢ Memory → MissesClause c.args.around c.args.stood c.args.base c.args.tokens.now e)
+returns-in_err-body-clause-takes g c = handed_on (λ o. MatchOption o (NoClause c.args.around c.args.stood c.args.base c.args.tokens.now) (λ p. TookClause c.args.around c.args.stood c.args.base c.args.tokens.now p.0 p.1 p.2 p.3.now)) (λ e. e ≢ Memory → MissesClause c.args.around c.args.stood c.args.base c.args.tokens.now e)
     c.from_residual-in_err-body.result c.from_residual-in_err-body.ensures.1 (λ not. record { row = λ so_far. row (peeks c.in_ok-token.ensures (no _ (sym c.is_word.ensures ∙ c.if-is_word.false) (yes _ (sym c.defaults.ensures ∙ c.if-defaults.true) (eats (live_word w.Default _ (left_true _ _ (sym c.defaults.ensures ∙ c.if-defaults.true))) c.in_ok-token.ensures ((c.in_err-body.ensures.takes not).row (Clauses c.args.around c.args.stood so_far) 0 (λ x. With c.args.around c.args.stood true so_far (case_of None x))))))) })
 
 pub returns-then-defaults-clause-takes : goal.returns-then-defaults-clause-takes

@@ -23,20 +23,20 @@ use Rattle.script_grammar.proofs.Along.{row, whole, gives, refuses, peeks, peeks
 use Rattle.script_grammar.proofs.Along as along
 use Rattle.script_grammar.proofs.Tokens.{live_word}
 use Rattle.script_rows.specs.Parts.{clauses_rule, TookClauses, MissesClauses, case_rule, TookCase, MissesCase, TookClause, MissesClause, NoClause, handlers_rule, last_rule, caught_rule, TookCatch, MissesCatch, TookElement, MissesElement}
-use Rattle.script_rows.proofs.Members.{turn_case, case_shorter, turn_default, default_shorter, again_clauses, body_of, as_block, opened, declared, stated, undeclared, unstated}
+use Rattle.script_rows.proofs.Members.{turn_case, case_shorter, turn_default, default_shorter, again_clauses, fits, body_of, as_block, opened, declared, stated, undeclared, unstated}
 use Rattle.script_rows.proofs.switches.clauses.Goals as goal
 
 pub returns-in-Ok-None-clause-meets : goal.returns-in-Ok-None-clause-meets
-returns-in-Ok-None-clause-meets g c = at_last c.loop-all.invariant.so_far refl (c.in-Ok-None.ensures.takes.row _)
+returns-in-Ok-None-clause-meets g c = at_last c.loop-case.invariant.so_far refl ((rw c.in-Ok-None.field-0-is at c.in-Ok-None.ensures.takes).row _)
 
 pub returns-in-Err-clause-meets : goal.returns-in-Err-clause-meets
-returns-in-Err-clause-meets g c not = c.loop-all.invariant.so_far.stops _ ((c.in-Err.ensures.takes not).row _)
+returns-in-Err-clause-meets g c not = c.loop-case.invariant.so_far.stops _ ((c.in-Err.ensures.takes not).row _)
 
-pub loop-all-smaller : goal.loop-all-smaller
-loop-all-smaller g c = c.in-Ok-Some.ensures.takes.shorter
+pub loop-case-smaller : goal.loop-case-smaller
+loop-case-smaller g c = (rw c.in-Ok-Some.field-0-is at c.in-Ok-Some.ensures.takes).shorter
 
-pub loop-all-preserved : goal.loop-all-preserved
-loop-all-preserved g c = record {
-  so_far = again_clauses c.loop-all.invariant.so_far c.in-Ok-Some.ensures.takes _ _ c.in_ok-cases_with.ensures (search rules);
-  small = search rules;
+pub loop-case-preserved : goal.loop-case-preserved
+loop-case-preserved g c = record {
+  so_far = again_clauses c.loop-case.invariant.so_far (rw c.in-Ok-Some.field-0-is at c.in-Ok-Some.ensures.takes) _ _ c.in_ok-all-in-Ok-Some.ensures (search rules);
+  small = fits c.args.base c.loop-case.tall c.in-Ok-Some.height c.max-tall.result c.loop-case.invariant.small (rw c.in-Ok-Some.field-0-is at c.in-Ok-Some.ensures.small) (search rules);
 }

@@ -30,10 +30,10 @@ pub returns-then-is_word-clause-meets : goal.returns-then-is_word-clause-meets
 returns-then-is_word-clause-meets g c = along.onward {n = (Statement c.args.around)} {b = c.args.base} {r = last_rule c.args.body c.args.caught} {s = peek (after_try c.args.body c.args.caught c.args.some)} c.finally.result (λ o x. peeks c.in-Ok.ensures (yes _ (sym c.is_word.ensures ∙ c.if-is_word.true) (eats (live_word w.Finally _ (sym c.is_word.ensures ∙ c.if-is_word.true)) c.in-Ok.ensures x))) c.finally.ensures.meets
 
 pub returns-then-some-clause-meets : goal.returns-then-some-clause-meets
-returns-then-some-clause-meets g c = row (peeks c.in-Ok.ensures (no _ (sym c.is_word.ensures ∙ c.if-is_word.false) (yes _ c.if-some.true (gives c.in_ok-made.ensures (omega arith)))))
+returns-then-some-clause-meets g c = row (peeks c.in-Ok.ensures (no _ (sym c.is_word.ensures ∙ c.if-is_word.false) (yes _ c.if-some.true (gives c.in_ok-made-in-Ok.ensures (omega arith)))))
 
-pub returns-in-Ok-clause-meets : goal.returns-in-Ok-clause-meets
-returns-in-Ok-clause-meets g c not = row (peeks c.in-Ok.ensures (no _ (sym c.is_word.ensures ∙ c.if-is_word.false) (no _ c.if-some.false (refuses c.in-Ok.ensures c.refused.ensures))))
+pub returns-else-some-clause-meets : goal.returns-else-some-clause-meets
+returns-else-some-clause-meets g c not = row (peeks c.in-Ok.ensures (no _ (sym c.is_word.ensures ∙ c.if-is_word.false) (no _ c.if-some.false (refuses c.in-Ok.ensures c.refused.ensures))))
 
 pub returns-in-Err-clause-meets : goal.returns-in-Err-clause-meets
 returns-in-Err-clause-meets g c not = row (peeks_end c.in-Err.ensures.0 c.in-Err.ensures.1)

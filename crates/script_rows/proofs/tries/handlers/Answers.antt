@@ -29,8 +29,8 @@ use Rattle.script_rows.proofs.tries.handlers.Goals as goal
 pub returns-then-is_word-clause-meets : goal.returns-then-is_word-clause-meets
 returns-then-is_word-clause-meets g c = along.onward {n = (Statement c.args.around)} {b = c.args.base} {r = catch_rule c.args.body} {s = handlers_rule c.args.body} c.catch.result (λ o x. peeks c.in-Ok.ensures (yes _ (sym c.is_word.ensures ∙ c.if-is_word.true) (eats (live_word w.Catch _ (sym c.is_word.ensures ∙ c.if-is_word.true)) c.in-Ok.ensures x))) c.catch.ensures.meets
 
-pub returns-in-Ok-clause-meets : goal.returns-in-Ok-clause-meets
-returns-in-Ok-clause-meets g c = along.onward {n = (Statement c.args.around)} {b = c.args.base} {r = peek (after_try c.args.body None false)} {s = handlers_rule c.args.body} c.after_try.result (λ o x. peeks c.in-Ok.ensures (no _ (sym c.is_word.ensures ∙ c.if-is_word.false) (unpeeks c.in-Ok.ensures x))) c.after_try.ensures.meets
+pub returns-else-is_word-clause-meets : goal.returns-else-is_word-clause-meets
+returns-else-is_word-clause-meets g c = along.onward {n = (Statement c.args.around)} {b = c.args.base} {r = peek (after_try c.args.body None false)} {s = handlers_rule c.args.body} c.after_try.result (λ o x. peeks c.in-Ok.ensures (no _ (sym c.is_word.ensures ∙ c.if-is_word.false) (unpeeks c.in-Ok.ensures x))) c.after_try.ensures.meets
 
 pub returns-in-Err-clause-meets : goal.returns-in-Err-clause-meets
 returns-in-Err-clause-meets g c not = row (peeks_end c.in-Err.ensures.0 c.in-Err.ensures.1)
