@@ -1,5 +1,5 @@
 -- Clauses, statements and declarations, each as a step of the row that holds it.
-use Rattle.std.proofs.Common.{◌≡◌, ◌≢◌, ℕ, ◌+◌, ◌<◌, ◌≤◌, max, Bool, true, false, not, ◌&&◌, Option, Some, None, List, [], ◌∷◌, ◌++◌, length, Result, Ok, Err, MatchResult, refl, ap, sym, ◌∙◌, subst, arith}
+use Rattle.std.proofs.Common.{◌≡◌, ◌≢◌, ℕ, ◌+◌, ◌<◌, ◌≤◌, max, Bool, true, false, not, ◌&&◌, None, List, [], ◌∷◌, ◌++◌, length, Result, Ok, Err, MatchResult, refl, ap, sym, ◌∙◌, subst, arith}
 use Rattle.std.specs.Borrow.{Bor}
 use Rattle.js_lexer.specs.declared.Kind.{Kind}
 use Rattle.js_lexer.specs.declared.Kind.TheVariants as kind
@@ -18,13 +18,12 @@ use Rattle.part_rows.proofs.Hungry.{declaration_shorter, statement_shorter}
 use Rattle.part_rows.proofs.Joints.{left_true}
 use Rattle.part_rows.proofs.Turns.{chain, turn_element, turn_function}
 use Rattle.script_grammar.specs.Goes.{Goes}
-use Rattle.script_grammar.specs.Grammar.{grammar, as_read, expect, outer}
-use Rattle.script_grammar.specs.Meets.{Continues, Follows, Has, Meets, Took}
-use Rattle.script_grammar.specs.Rules.{Context, Symbol, Rule, Done, Outcome}
-use Rattle.script_grammar.specs.Rules.Rule.{give, refuse, read}
+use Rattle.script_grammar.specs.Grammar.{grammar, as_read, outer}
+use Rattle.script_grammar.specs.Meets.{Continues, Follows, Meets, Took}
+use Rattle.script_grammar.specs.Rules.{Context, Rule}
+use Rattle.script_grammar.specs.Rules.Rule.{give}
 use Rattle.script_grammar.specs.Rules.Symbol.{Block, Clauses, Declaration, Elements, Statement, Statements}
-use Rattle.script_grammar.specs.Words.{is, is_word, kind_is, same_mark, start_of, stops}
-use Rattle.script_grammar.specs.declared.classes.Start.{Start}
+use Rattle.script_grammar.specs.Words.{is, is_word, kind_is, same_mark, start_of}
 use Rattle.script_grammar.specs.declared.classes.Start.TheVariants as start
 use Rattle.script_grammar.specs.declared.stop.Stop.{Stop}
 use Rattle.script_grammar.specs.declared.stop.Stop.TheVariants.{Memory}

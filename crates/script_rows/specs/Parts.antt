@@ -1,5 +1,5 @@
 -- What the functions for `switch`, `try` and scripts answer: what a row does after a part, it does with the part before it.
-use Rattle.std.specs.Prelude.{◌≡◌, ℕ, max, Bool, true, false, List, [], ◌∷◌, ◌++◌, Ok, Err, Option, Some, None, ◌<◌, length}
+use Rattle.std.specs.Prelude.{◌≡◌, ℕ, max, Bool, false, List, [], ◌∷◌, ◌++◌, Ok, Err, Option, Some, None, ◌<◌, length}
 use Rattle.js_lexer.specs.declared.Mark.TheVariants as m
 use Rattle.js_lexer.specs.declared.Reserved.TheVariants as w
 use Rattle.js_lexer.specs.declared.Token.{Token}
