@@ -182,29 +182,30 @@ struct Long {
     notes: &'static [u8],
 }
 
+const LONG: [Long; 3] = [
+    Long {
+        part: b"- ",
+        times: 201,
+        last: b"1",
+        notes: b"nesting over 200\n",
+    },
+    Long {
+        part: b"function f(a,b,c,d,e,g,h,i){}",
+        times: 8191,
+        last: b"",
+        notes: b"not built\n",
+    },
+    Long {
+        part: b"function f(a,b,c,d,e,g,h,i){}",
+        times: 8192,
+        last: b"",
+        notes: b"too many names\n",
+    },
+];
+
 #[test]
 fn nesting_and_names_have_their_limits(rt: HostRuntime) -> Result<(), std::test::Fail> {
-    let table = [
-        Long {
-            part: b"- ",
-            times: 201,
-            last: b"1",
-            notes: b"nesting over 200\n",
-        },
-        Long {
-            part: b"function f(a, b) {}",
-            times: 30000,
-            last: b"",
-            notes: b"not built\n",
-        },
-        Long {
-            part: b"function f(a, b, c) {}",
-            times: 30000,
-            last: b"",
-            notes: b"too many names\n",
-        },
-    ];
-    for row in &table {
+    for row in &LONG {
         let mut text = Bytes::new(rt.alloc());
         for _ in 0..row.times {
             text.push_slice(row.part)?;
