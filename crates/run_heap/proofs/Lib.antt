@@ -7,6 +7,7 @@ pub mod Keys
 pub mod Look
 pub mod Made
 pub mod Putting
+pub mod Scoping
 pub mod Shorter
 pub mod Tables
 pub mod Turn

@@ -3,6 +3,7 @@ pub mod Core
 pub mod Lengths
 pub mod Making
 pub mod Placed
+pub mod Scopes
 pub mod Stays
 pub mod Stored
 pub mod Whole

@@ -171,9 +171,9 @@ module _ (old : Core) (k : IsCore old) (cells : Held) (slots : Slots) (place : P
           on_marks (λ i a. slice_get (old.slots.marks ++ old.slots.current ∷ []) i ≡ Some q → CellsWithin (length a) q)
           (λ i a e f. let w = slice_get_within old.cells.marks i a e in k.marked.within i a q e (front_of old.slots.marks old.slots.current i q f (omega (arith, w, same))))
           (λ f.
-              let g : Some old.slots.current ≡ Some q = sym (get_last old.slots.marks old.slots.current) ∙ ap (slice_get (old.slots.marks ++ old.slots.current ∷ [])) same ∙ f in
-              let h : old.slots.current ≡ q = cc in
-              subst (CellsWithin (length old.cells.now)) h k.within) i a e f2;
+          let g : Some old.slots.current ≡ Some q = sym (get_last old.slots.marks old.slots.current) ∙ ap (slice_get (old.slots.marks ++ old.slots.current ∷ [])) same ∙ f in
+          let h : old.slots.current ≡ q = cc in
+          subst (CellsWithin (length old.cells.now)) h k.within) i a e f2;
     };
     within = subst (λ (n : ℕ). CellsWithin n slots.current) (sym (ap length now)) (subst (CellsWithin (length old.cells.now)) (sym current) k.within);
     as_many_cells = ap length marks ∙ length-append old.cells.marks (old.cells.now ∷ []) ∙ omega (arith, k.as_many_cells, ap length outer_is, length-append old.outer (old.place ∷ []));
