@@ -1,6 +1,7 @@
 pub mod Begins
 pub mod Core
 pub mod Lengths
+pub mod Listing
 pub mod Making
 pub mod Placed
 pub mod Scopes

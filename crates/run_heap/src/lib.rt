@@ -11,6 +11,7 @@ use value_cells::{Cells, Mark};
 mod accesses;
 mod begin;
 mod classes;
+mod listing;
 mod making;
 mod puts;
 mod scopes;
