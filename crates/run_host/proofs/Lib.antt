@@ -1,0 +1,4 @@
+pub mod Comes
+pub mod Loops
+pub mod Moments
+pub mod Sequence

@@ -1,0 +1,11 @@
+//! The rows of the evaluator: what each kind of node does, over a host and over what runs the nodes below.
+#![tactic(auto)]
+
+mod below;
+mod codes;
+mod loops;
+mod statements;
+mod values;
+
+pub use below::Below;
+pub use codes::{CodeRef, Codes};
