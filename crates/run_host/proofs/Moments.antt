@@ -19,7 +19,7 @@ use native.Mathlib.Nat.{le_refl, le_trans}
 pub fits_before : {nu : Naming} {old new : List Name} → Grows old new → Fits nu new → Fits nu old
 fits_before g f = record { agrees = λ i n e. f.agrees i n (g i n e) }
 
-there : (xs : List Name) (i : ℕ) → i < length xs → (n : Name) × (slice_get xs i ≡ Some n)
+pub there : (xs : List Name) (i : ℕ) → i < length xs → (n : Name) × (slice_get xs i ≡ Some n)
 there [] i h = absurd (omega arith)
 there (x ∷ xs) i h = (get_or (x ∷ xs) i x, slice_get-get_or (x ∷ xs) i x h)
 

@@ -1,10 +1,11 @@
 -- What a run stands at, between two steps of an evaluator: the heap with its open scopes, what is never taken back, and what the
 -- run knows of the outside.
-use Rattle.std.specs.Prelude.{◌≡◌, ℕ, suc, List, [], ◌∷◌, Option, Some, slice_get, ◌≤◌}
+use Rattle.std.specs.Prelude.{◌≡◌, ℕ, suc, List, [], ◌∷◌, Option, Some, slice_get, ◌≤◌, ◌<◌}
 use Rattle.turk_base.specs.Names.{Path, Name, Units, In, Under, home}
 use Rattle.turk_base.specs.Values.{Wait, Data}
 use Rattle.turk_base.specs.declared.Record.{Record}
 use Rattle.turk_base.specs.declared.Record.TheVariants as kept
+use Rattle.turk_base.specs.Errors.{built_in}
 use Rattle.turk_base.specs.Asks.{Question, Rec, rec, path_of}
 use Rattle.js_tree.specs.World.{Draws, World, Rest, draw_of}
 use Rattle.run_laws.proofs.Sequel.{Place}
@@ -37,6 +38,14 @@ pub record Moment : Type 0 where
 -- how many cells there are
 abbrev pub cells : Moment → ℕ
 cells m = count m.heap
+
+-- the first seven cells are the built-in ones
+pub record HasBuiltIns (m : Moment) : Type 0 where
+  pub named : (i : ℕ) → i < 7 → slice_get m.heap.names i ≡ Some (built_in i)
+
+-- no two cells have one name
+pub record AreApart (m : Moment) : Type 0 where
+  pub named : (i j : ℕ) (n : Name) → slice_get m.heap.names i ≡ Some n → slice_get m.heap.names j ≡ Some n → i ≡ j
 
 abbrev pub drawn_by : Record → ℕ → ℕ
 drawn_by (kept.Post t) n = n

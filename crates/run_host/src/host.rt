@@ -7,7 +7,7 @@ ghost use Rattle.turk_base.specs.Prog.{Prog, Pay, KindOf, Make, Inherits, Get, P
 ghost use Rattle.turk_base.specs.BuiltIns.{call_built_in};
 ghost use Rattle.value_cells.specs.Needs.{needs, option_needs, all_needs, kind_needs};
 ghost use Rattle.value_cells.specs.Seen.{Naming, val_in, kind_in};
-ghost use Rattle.run_host.specs.Moment.{Moment, cells};
+ghost use Rattle.run_host.specs.Moment.{Moment, cells, HasBuiltIns, AreApart};
 ghost use Rattle.run_host.specs.Told.{Says, told_value, told_exit, exit_needs};
 ghost use Rattle.run_host.specs.Did.{Runs};
 ghost use Rattle.run_host.specs.Steps.{Gives, Leaves, Takes};
@@ -239,4 +239,10 @@ pub trait Host {
             → Runs (λ nu. Fork (g nu)) (λ nu. told_fork nu result) before (moment self.new) }
         ensures thrown { IfErr result (λ x. exit_needs x ≤ cells (moment self.new)) }
         ensures sound { is_sound self.new };
+
+    /// The first seven cells are the built-in ones.
+    ghost built_ins: { (h : Self) → is_sound h → HasBuiltIns (moment h) };
+
+    /// No two cells have one name.
+    ghost apart: { (h : Self) → is_sound h → AreApart (moment h) };
 }

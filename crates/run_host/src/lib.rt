@@ -8,6 +8,7 @@ mod host;
 
 use ask_model::{AskStop, Divergence};
 pub use host::Host;
+use turk_base::NoMemory;
 use value_cells::Value;
 
 /// Why a run is refused.
@@ -71,5 +72,17 @@ impl Here {
         ensures { result ≡ record self { frame = frame } }
     {
         Here { frame, ..self }
+    }
+}
+
+impl From<NoMemory> for Exit {
+    ghost use Rattle.std.specs.Prelude.{◌≡◌};
+    ghost use Rattle.ask_model.specs.declared.AskStop.TheVariants as stop;
+    ghost use Rattle.run_host.specs.declared.Exit.TheVariants as exit;
+
+    ghost from_gives = { λ _ e. e ≡ exit.Stopped stop.Memory };
+
+    fn from(_want: NoMemory) -> Exit {
+        Exit::Stopped(AskStop::Memory)
     }
 }

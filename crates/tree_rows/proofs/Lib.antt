@@ -1,3 +1,3 @@
-pub mod Exits
 pub mod Lists
 pub mod Turns
+pub mod Flows

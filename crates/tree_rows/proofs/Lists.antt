@@ -18,7 +18,7 @@ use Rattle.run_host.specs.Told.{told_exit, told_flow, flow_in}
 use Rattle.run_host.specs.Did.{Runs}
 use Rattle.run_host.specs.Steps.{Onward}
 use Rattle.run_host.proofs.Sequence.{then_on, then_out, ends_with, onward_then}
-use Rattle.tree_rows.proofs.Exits.{first_out}
+use Rattle.run_host.proofs.Exits.{first_out}
 
 -- a program is another's equal
 pub onward_eq : {f g : Naming → Prog} {m : Moment} → ((nu : Naming) → f nu ≡ g nu) → Onward f g m m

@@ -18,7 +18,7 @@ use Rattle.run_host.specs.Told.{told_exit, told_flow, flow_in}
 use Rattle.run_host.specs.Did.{Runs}
 use Rattle.run_host.proofs.Sequence.{exit_no_value}
 use Rattle.run_host.proofs.Loops.{Rounds, loop_runs, turns_out, rounds_on}
-use Rattle.tree_rows.proofs.Exits.{always_exit, always_done}
+use Rattle.run_host.proofs.Exits.{always_exit, always_done}
 use Rattle.tree_rows.proofs.Lists.{not_normal}
 
 module _ (table : List Code) (expr : Here → Expr → Prog) (stmt : Here → Stmt → Prog) (turn : Naming → Prog) where

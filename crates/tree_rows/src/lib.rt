@@ -3,9 +3,14 @@
 
 mod below;
 mod codes;
+mod expressions;
+mod fors;
 mod loops;
+mod places;
 mod statements;
-mod values;
+mod switches;
+mod tries;
+mod variables;
 
 pub use below::Below;
 pub use codes::{CodeRef, Codes};

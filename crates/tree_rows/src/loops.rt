@@ -12,7 +12,7 @@ ghost use Rattle.tree_rows.specs.Nests.{Nests};
 
 use crate::below::Below;
 use crate::codes::Codes;
-use crate::values::truth;
+use host_steps::values::truth;
 use js_tree::{Expr, Stmt};
 use run_host::{Exit, Flow, Here, Host};
 use std::alloc::Global;

@@ -4,7 +4,7 @@ use Rattle.js_tree.specs.Statements.{continued}
 use Rattle.tree_rows.specs.Codes.{table_in}
 use Rattle.js_tree.specs.Rows.{expr_to, stmt_to}
 use Rattle.run_host.specs.Told.{flow_in}
-use Rattle.tree_rows.proofs.Exits.{flow_exit, always_exit, always_done}
+use Rattle.run_host.proofs.Exits.{flow_exit, always_exit, always_done}
 use Rattle.tree_rows.proofs.Lists.{passes_on}
 use Rattle.tree_rows.proofs.below.Below.body.Goals as goal
 

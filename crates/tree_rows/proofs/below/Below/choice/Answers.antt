@@ -9,7 +9,7 @@ use Rattle.run_host.specs.Told.{here_in, told_flow}
 use Rattle.run_host.proofs.Sequence.{then_on}
 use Rattle.tree_rows.proofs.Lists.{onward_eq}
 use Rattle.tree_rows.specs.Codes.{table_in}
-use Rattle.tree_rows.proofs.Exits.{flow_exit, first_out}
+use Rattle.run_host.proofs.Exits.{flow_exit, first_out}
 use Rattle.tree_rows.proofs.below.Below.choice.Goals as goal
 
 pub returns-in_err-value-clause-ran : goal.returns-in_err-value-clause-ran

@@ -3,7 +3,7 @@ use Rattle.js_tree.specs.Rows.{expr_to}
 use Rattle.run_host.specs.Told.{here_in}
 use Rattle.run_host.proofs.Sequence.{then_on}
 use Rattle.tree_rows.specs.Codes.{table_in}
-use Rattle.tree_rows.proofs.Exits.{value_exit, first_out}
+use Rattle.run_host.proofs.Exits.{value_exit, first_out}
 use Rattle.tree_rows.proofs.below.Below.comma.Goals as goal
 
 pub returns-in_err-expr-clause-ran : goal.returns-in_err-expr-clause-ran

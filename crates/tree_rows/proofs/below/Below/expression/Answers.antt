@@ -1,7 +1,7 @@
 use Rattle.turk_base.specs.Prog.{nothing}
 use Rattle.js_tree.specs.Statements.{expression_row}
 use Rattle.run_host.proofs.Sequence.{then_on, ends_with}
-use Rattle.tree_rows.proofs.Exits.{flow_exit, first_out}
+use Rattle.run_host.proofs.Exits.{flow_exit, first_out}
 use Rattle.tree_rows.proofs.below.Below.expression.Goals as goal
 
 pub returns-in_err-_value-clause-ran : goal.returns-in_err-_value-clause-ran

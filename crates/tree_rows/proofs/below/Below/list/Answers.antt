@@ -3,7 +3,7 @@ use Rattle.js_tree.specs.Rows.{stmt_to}
 use Rattle.run_host.specs.Told.{here_in}
 use Rattle.run_host.proofs.Sequence.{onward_same}
 use Rattle.tree_rows.specs.Codes.{table_in}
-use Rattle.tree_rows.proofs.Exits.{flow_exit}
+use Rattle.run_host.proofs.Exits.{flow_exit}
 use Rattle.tree_rows.proofs.Lists.{list_next, list_ends, list_out, list_over}
 use Rattle.tree_rows.proofs.below.Below.list.Goals as goal
 

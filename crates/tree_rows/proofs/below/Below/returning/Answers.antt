@@ -2,7 +2,7 @@ use Rattle.turk_base.specs.Values.{Return}
 use Rattle.turk_base.specs.Prog.{Done}
 use Rattle.js_tree.specs.Statements.{return_row}
 use Rattle.run_host.proofs.Sequence.{then_on, ends_with}
-use Rattle.tree_rows.proofs.Exits.{flow_exit, first_out}
+use Rattle.run_host.proofs.Exits.{flow_exit, first_out}
 use Rattle.tree_rows.proofs.below.Below.returning.Goals as goal
 
 pub returns-in_default-clause-ran : goal.returns-in_default-clause-ran

@@ -3,7 +3,7 @@ use Rattle.js_tree.specs.Statements.{while_row}
 use Rattle.js_tree.specs.Rows.{expr_to, stmt_to}
 use Rattle.run_host.proofs.Loops.{rounds_same}
 use Rattle.tree_rows.specs.Codes.{table_in}
-use Rattle.tree_rows.proofs.Exits.{flow_exit}
+use Rattle.run_host.proofs.Exits.{flow_exit}
 use Rattle.tree_rows.proofs.Turns.{loop_exit, loop_breaks, loop_leaves, loop_goes}
 use Rattle.tree_rows.proofs.below.Below.while_loop.Goals as goal
 
