@@ -2,6 +2,7 @@
 #![tactic(auto)]
 
 pub mod errors;
+pub mod literals;
 pub mod names;
 pub mod places;
 pub mod properties;

@@ -37,7 +37,7 @@ fn frame_out<H: Host>(host: &H, steps: u32, frame: u32) -> u32
     ensures exists { result < cells (H.moment host.now) }
 {
     let mut at = frame;
-    for _ in 0..steps {
+    for i in 0..steps {
         at = parent_of(host.kind(at), at);
     }
     at
@@ -86,13 +86,13 @@ fn built_in_value<H: Host>(host: &H, name: &Units) -> Value
     ensures did { Gives (λ nu go. go (pieces.built_in_value name.now)) (λ nu. val_in nu result) (H.moment host.now) (H.moment host.now) }
     ensures exists { needs result ≤ cells (H.moment host.now) }
 {
-    if is_word(name.as_slice(), b"Error") {
+    if is_word(name, b"Error") {
         Value::Object(0)
-    } else if is_word(name.as_slice(), b"TypeError") {
+    } else if is_word(name, b"TypeError") {
         Value::Object(2)
-    } else if is_word(name.as_slice(), b"ReferenceError") {
+    } else if is_word(name, b"ReferenceError") {
         Value::Object(4)
-    } else if is_word(name.as_slice(), b"String") {
+    } else if is_word(name, b"String") {
         Value::Object(6)
     } else {
         Value::Undefined
@@ -136,8 +136,10 @@ pub fn set_variable<H: Host>(
     ensures sound { H.is_sound host.new }
 {
     match x.binding {
-        Binding::Out(_) if x.own => Ok(()),
         Binding::Out(steps) => {
+            if x.own {
+                return Ok(());
+            }
             let frame = frame_out(host, steps, here.frame);
             host.write_name(frame, &x.name, value.copy(alloc)?)
         }

@@ -17,7 +17,7 @@ use crate::errors::type_error_of;
 use crate::values::is_word;
 use run_host::{Exit, Host};
 use std::alloc::Global;
-use turk_base::{Units, Whole};
+use turk_base::{NoMemory, Units, Whole};
 use value_cells::Value;
 
 /// Undefined and null have no properties.
@@ -46,15 +46,26 @@ pub fn or_undefined(found: Option<Value>) -> Value
     }
 }
 
-/// The property of a text: its length, or nothing.
-fn text_property(text: &Units, key: &Units) -> Value
-    ensures value { (nu : Naming) → (if is_key "length" key.now then Number (pos (length text.now)) else Undefined) ≡ val_in nu result }
-    ensures needs { needs result ≡ 0 }
+/// The length of a text as a number. None is longer than 2^53: it would not fit into memory.
+fn length_number(text: &Units) -> Result<Whole, NoMemory>
+    ensures { IfOk result (λ n. n ≡ pos (length text.now)) }
 {
-    if is_word(key.as_slice(), b"length") {
-        Value::Number(Whole::make(text.len() as i64))
+    let length = text.len();
+    if length > 9_007_199_254_740_992 {
+        return Err(NoMemory);
+    }
+    Ok(Whole::make(length as i64))
+}
+
+/// The property of a text: its length, or nothing.
+fn text_property(text: &Units, key: &Units) -> Result<Value, NoMemory>
+    ensures value { IfOk result (λ v. (nu : Naming) → (if is_key "length" key.now then Number (pos (length text.now)) else Undefined) ≡ val_in nu v) }
+    ensures needs { IfOk result (λ v. needs v ≡ 0) }
+{
+    if is_word(key, b"length") {
+        Ok(Value::Number(length_number(text)?))
     } else {
-        Value::Undefined
+        Ok(Value::Undefined)
     }
 }
 
@@ -73,7 +84,7 @@ pub fn get_property<H: Host>(host: &mut H, base: &Value, key: &Units) -> Result<
             let found = host.get(*cell, key)?;
             Ok(or_undefined(found))
         }
-        Value::Text(text) => Ok(text_property(text, key)),
+        Value::Text(text) => Ok(text_property(text, key)?),
         _ => Ok(Value::Undefined),
     }
 }
@@ -115,7 +126,7 @@ pub fn delete_property<H: Host>(host: &mut H, base: &Value, key: &Units) -> Resu
             let gone = host.remove(*cell, key)?;
             Ok(Value::Truth(gone))
         }
-        Value::Text(_) => Ok(Value::Truth(!is_word(key.as_slice(), b"length"))),
+        Value::Text(_) => Ok(Value::Truth(!is_word(key, b"length"))),
         _ => Ok(Value::Truth(true)),
     }
 }

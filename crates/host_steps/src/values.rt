@@ -1,5 +1,5 @@
 //! What values are, without a look at any cell.
-ghost use Rattle.std.specs.Prelude.{◌≡◌, ◌≤◌, IfOk};
+ghost use Rattle.std.specs.Prelude.{◌≡◌, ◌≤◌, IfOk, ◌++◌, ◌∷◌, []};
 ghost use Rattle.turk_base.specs.Conversions as spec;
 ghost use Rattle.turk_base.specs.Operators as operators;
 ghost use Rattle.value_cells.specs.Needs.{needs};
@@ -46,10 +46,10 @@ pub fn reading(value: &Value) -> Result<Reading, Refusal>
 pub fn number(value: &Value) -> Result<Whole, Refusal>
     ensures { (nu : Naming) → spec.number_in (val_in nu value.now) ≡ answer_of (λ n. n) result }
 {
-    match reading(value) {
-        Ok(Reading::Whole(number)) => Ok(number),
-        Ok(_) => Err(Refusal::NotWhole),
-        Err(why) => Err(why),
+    let read = reading(value)?;
+    match read {
+        Reading::Whole(number) => Ok(number),
+        _ => Err(Refusal::NotWhole),
     }
 }
 
@@ -57,11 +57,11 @@ pub fn number(value: &Value) -> Result<Whole, Refusal>
 pub fn integer(value: &Value) -> Result<Whole, Refusal>
     ensures { (nu : Naming) → spec.integer_in (val_in nu value.now) ≡ answer_of (λ n. n) result }
 {
-    match reading(value) {
-        Ok(Reading::Whole(number)) => Ok(number),
-        Ok(Reading::Nan) => Ok(Whole::from_u32(0)),
-        Ok(Reading::Outside) => Err(Refusal::NotWhole),
-        Err(why) => Err(why),
+    let read = reading(value)?;
+    match read {
+        Reading::Whole(number) => Ok(number),
+        Reading::Nan => Ok(Whole::from_u32(0)),
+        Reading::Outside => Err(Refusal::NotWhole),
     }
 }
 
@@ -81,10 +81,10 @@ pub fn plain_text(alloc: Global, value: &Value) -> Result<Option<Units>, NoMemor
 }
 
 /// Whether a text is this word of ASCII.
-pub fn is_word(text: &[u16], word: &[u8]) -> bool
+pub fn is_word(text: &Units, word: &[u8]) -> bool
     ensures { spec.same_units word.now text.now ≡ result }
 {
-    let mut units = text;
+    let mut units = text.as_slice();
     let mut bytes = word;
     loop {
         match bytes {
@@ -118,5 +118,15 @@ pub fn same<H: Host>(host: &H, x: &Value, y: &Value) -> bool
         (Value::Text(a), Value::Text(b)) => same_texts(a, b),
         (Value::Object(a), Value::Object(b)) => *a == *b,
         _ => false,
+    }
+}
+
+/// Adds a value to a list.
+pub fn push(values: &mut Vec<Value>, value: Value) -> Result<(), NoMemory>
+    ensures { IfOk result (λ _. values.new.items ≡ values.old.items ++ value ∷ []) }
+{
+    match values.push(value) {
+        Ok(()) => Ok(()),
+        Err(_) => Err(NoMemory),
     }
 }

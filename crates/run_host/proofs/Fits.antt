@@ -1,11 +1,9 @@
 -- What is known of the cells' names under a naming that fits, and steps whose programs are equal under such a naming.
-use Rattle.std.specs.Prelude.{List, Option, Some, slice_get, Result, Ok, Err}
-use Rattle.std.proofs.Common.{◌≡◌, ◌<◌, ◌≤◌, ◌∙◌, ℕ, refl, sym, ap, subst, arith, length}
+use Rattle.std.specs.Prelude.{Some, Result, Ok, Err}
+use Rattle.std.proofs.Common.{◌≡◌, ◌<◌, ◌∙◌, ℕ, sym, ap, subst}
 use Rattle.std.proofs.lemmas.Option.{slice_get_within}
-use Rattle.turk_base.specs.Names.{Name}
 use Rattle.turk_base.specs.Errors.{built_in}
-use Rattle.turk_base.specs.Prog.{Prog, Then, refuse, given}
-use Rattle.turk_base.specs.Values as model
+use Rattle.turk_base.specs.Prog.{Prog, refuse, value}
 use Rattle.turk_base.specs.Values.{Val}
 use Rattle.value_cells.specs.declared.Value.{Value}
 use Rattle.value_cells.specs.Seen.{Naming, Fits, val_in}
@@ -15,12 +13,12 @@ use Rattle.run_host.specs.declared.Halt.TheVariants as halt
 use Rattle.run_host.specs.declared.Refusal.{Refusal}
 use Rattle.ask_model.specs.declared.AskStop.TheVariants as stop
 use Rattle.run_host.specs.Moment.{Moment, cells, rest_of, draws_in, place, HasBuiltIns, AreApart}
-use Rattle.run_host.specs.Told.{Told, next_of, told_exit, refusal_in}
+use Rattle.run_host.specs.Told.{Told, next_of, told_exit, told_value, refusal_in}
 use Rattle.run_host.specs.Ends.{Comes}
 use Rattle.run_host.specs.Did.{Runs}
 use Rattle.run_host.specs.Steps.{Onward, Step, Leads, Leaves, Gives, Takes}
 use Rattle.run_host.proofs.Moments.{fits_before, there}
-use Rattle.run_host.proofs.Sequence.{onward_same, leads_then, leads_out, gives_on, leaves_on, no_memory, refused}
+use Rattle.run_host.proofs.Sequence.{leads_then, leads_out, gives_on, no_memory, refused, ends_with}
 
 -- a program is another's equal, under each naming that fits
 pub onward_fits : {f g : Naming → Prog} {m : Moment} → ((nu : Naming) → Fits nu m.heap.names → f nu ≡ g nu) → Onward f g m m
@@ -71,6 +69,9 @@ takes_on u k h r x y = takes_as u h r (gives_on x k) y
 pub leaves_lost : {A : Type 0} {f : Naming → Step A} {s : Moment} → Leaves f (exit.Stopped stop.Memory) s s
 leaves_lost = record { ends = λ go. no_memory }
 
+pub out_lost : {A : Type 0} {f g : Naming → Step A} {s t : Moment} → Leads f g s t → Leaves f (exit.Stopped stop.Memory) s t
+out_lost x = leads_out x leaves_lost
+
 -- a step that is a refusal, whatever comes after
 pub leaves_refused : {A : Type 0} {f : Naming → Step A} {s : Moment} (y : Refusal) → ((nu : Naming) (go : A → Prog) → f nu go ≡ refuse (refusal_in y)) → Leaves f (exit.Halted (halt.Refused y)) s s
 leaves_refused {A} {f} {s} y e = record { ends = λ go. (onward_fits (λ nu h. e nu (go nu))).goes (λ nu. told_exit nu (exit.Halted (halt.Refused y))) s (refused y) }
@@ -82,3 +83,8 @@ runs_on {t = t} {z = z} go s r = (s.goes go).goes t z r
 
 pub runs_left : {A : Type 0} {f : Naming → Step A} {e : Exit} {x y : Moment} (go : Naming → A → Prog) → Leaves f e x y → Runs (λ nu. f nu (go nu)) (λ nu. told_exit nu e) x y
 runs_left go s = s.ends go
+
+-- a step whose answer is the value
+pub valued : (f : Naming → Step Val) {s t : Moment} (r : Result Value Exit) → Takes f val_in r s t → Runs (λ nu. f nu (λ v. value v)) (λ nu. told_value nu r) s t
+valued f {s} {t} (Ok v) x = runs_on {f = f} {a = λ nu. val_in nu v} (λ nu v. value v) x ends_with
+valued f {s} {t} (Err e) x = x.ends (λ nu v. value v)

@@ -86,3 +86,15 @@ impl From<NoMemory> for Exit {
         Exit::Stopped(AskStop::Memory)
     }
 }
+
+impl From<Refusal> for Exit {
+    ghost use Rattle.std.specs.Prelude.{◌≡◌};
+    ghost use Rattle.run_host.specs.declared.Halt.TheVariants as halt;
+    ghost use Rattle.run_host.specs.declared.Exit.TheVariants as exit;
+
+    ghost from_gives = { λ why e. e ≡ exit.Halted (halt.Refused why) };
+
+    fn from(why: Refusal) -> Exit {
+        Exit::Halted(Halt::Refused(why))
+    }
+}

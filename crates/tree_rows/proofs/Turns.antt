@@ -21,16 +21,17 @@ use Rattle.run_host.proofs.Loops.{Rounds, loop_runs, turns_out, rounds_on}
 use Rattle.run_host.proofs.Exits.{always_exit, always_done}
 use Rattle.tree_rows.proofs.Lists.{not_normal}
 
+-- a loop passes on how its turn ended, but for `break`
+pub passed : (table : List Code) (expr : Here → Expr → Prog) (stmt : Here → Stmt → Prog) (nu : Naming) (f : Flow) → f ≢ flow.Break → left_loop table expr stmt (flow_in nu f) ≡ Done (flow_in nu f)
+passed table expr stmt nu flow.Normal n = refl
+passed table expr stmt nu flow.Break n = absurd (n refl)
+passed table expr stmt nu flow.Continue n = refl
+passed table expr stmt nu (flow.Return v) n = refl
+
 module _ (table : List Code) (expr : Here → Expr → Prog) (stmt : Here → Stmt → Prog) (turn : Naming → Prog) where
   -- what a loop of this turn is
   abbrev pub loop_of : Naming → Prog
   loop_of nu = looped table expr stmt (turn nu)
-
-  passed : (nu : Naming) (f : Flow) → f ≢ flow.Break → left_loop table expr stmt (flow_in nu f) ≡ Done (flow_in nu f)
-  passed nu flow.Normal n = refl
-  passed nu flow.Break n = absurd (n refl)
-  passed nu flow.Continue n = refl
-  passed nu (flow.Return v) n = refl
 
   -- a turn ended by an exit
   pub loop_exit : {a b c : Moment} (x : Exit) → Rounds turn a b → Runs turn (λ nu. told_exit nu x) b c → Runs loop_of (λ nu. told_exit nu x) a c
@@ -45,7 +46,7 @@ module _ (table : List Code) (expr : Here → Expr → Prog) (stmt : Here → St
   -- a turn ended otherwise than normally
   pub loop_leaves : {a b c : Moment} (f : Flow) → f ≢ flow.Normal → f ≢ flow.Break → Rounds turn a b → Runs turn (λ nu. told_flow nu (Ok f)) b c → Runs loop_of (λ nu. told_flow nu (Ok f)) a c
   loop_leaves {c = c} f n m rest ran =
-      always_done (λ nu. left_loop table expr stmt) (λ nu. passed nu f m) (loop_runs (rest.goes (λ nu. told_flow nu (Ok f)) c (turns_out (λ nu. not_normal nu f n) ran)))
+      always_done (λ nu. left_loop table expr stmt) (λ nu. passed table expr stmt nu f m) (loop_runs (rest.goes (λ nu. told_flow nu (Ok f)) c (turns_out (λ nu. not_normal nu f n) ran)))
 
   -- a turn ended normally, and paid
   pub loop_goes : {a b c : Moment} (f : Flow) → f ≡ flow.Normal → Rounds turn a b → Runs turn (λ nu. told_flow nu (Ok f)) b c → c.heap.left < b.heap.left → Rounds turn a c

@@ -21,9 +21,10 @@ use crate::codes::Codes;
 use host_steps::places::Place;
 use host_steps::properties::has_properties;
 use host_steps::texts::text_of;
+use host_steps::values::push;
 use js_tree::{Expr, ExprNode, Key, Stmt};
 use run_host::{Exit, Flow, Here, Host};
-use turk_base::{NoMemory, Units};
+use turk_base::Units;
 use std::alloc::Global;
 use value_cells::Value;
 
