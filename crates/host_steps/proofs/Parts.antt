@@ -1,10 +1,12 @@
 -- Values that are no objects, and cells by their numbers.
 use Rattle.std.specs.Prelude.{Ok, Bool, true, false, codes, ◌++◌, if◌then◌else◌}
-use Rattle.std.proofs.Common.{◌≡◌, refl, sym, ap, ◌∙◌, ℕ, ◌<◌, ◌-◌, ◌+◌, suc, arith}
+use Rattle.std.proofs.Common.{◌≡◌, refl, sym, ap, ◌∙◌, ℕ, ◌<◌, ◌≤◌, nat_eq, ◌-◌, ◌+◌, suc, arith}
 use Rattle.turk_base.specs.Names.{Name, Units, pick, name_eq}
-use Rattle.turk_base.specs.Operators.{same_name}
+use Rattle.std.proofs.lemmas.Bool.Decides.{nat_tests}
+use Rattle.turk_base.specs.Operators.{same, same_name}
+use Rattle.value_cells.specs.Needs.{needs}
 use Rattle.turk_base.specs.Values as model
-use Rattle.turk_base.specs.Prog.{Prog, KindOf, WriteName, ask, value}
+use Rattle.turk_base.specs.Prog.{Prog, KindOf, WriteName, ask}
 use Rattle.js_tree.specs.Pieces.{Here, has_properties, get_property, set_property, frame_out, parent_in, set_bound, set_variable}
 use Rattle.js_tree.specs.declared.Binding.{Binding}
 use Rattle.js_tree.specs.declared.Binding.TheVariants as binding
@@ -75,6 +77,19 @@ same_cell i j a k l nu f e = pick_yes (nu i) (nu j) (ap nu e)
 
 pub other_cell : {m : Moment} (i j : ℕ) → AreApart m → i < cells m → j < cells m → (nu : Naming) → Fits nu m.heap.names → (i ≡ j → ⊥) → same_name (nu i) (nu j) ≡ false
 other_cell i j a k l nu f n = pick_no (nu i) (nu j) (λ e. n (one_name i j a k l nu f e))
+
+pub same_objects : {m : Moment} (v w : Value) (i j : ℕ) → v ≡ code.Object i → w ≡ code.Object j → AreApart m → needs v ≤ cells m → needs w ≤ cells m → (nu : Naming) → Fits nu m.heap.names → same (val_in nu v) (val_in nu w) ≡ nat_eq i j
+same_objects {m} v w i j e f a k l nu fits = (λ t. same (val_in nu (e t)) (val_in nu (f t))) ∙ by (nat_eq i j) refl
+  where
+    first : i < cells m
+    first = let q : needs v ≡ suc i = ap needs e in omega (arith, k, q)
+
+    second : j < cells m
+    second = let q : needs w ≡ suc j = ap needs f in omega (arith, l, q)
+
+    by : (b : Bool) → nat_eq i j ≡ b → same_name (nu i) (nu j) ≡ b
+    by true h = let q : i ≡ j = grind (arith, nat_tests) in same_cell i j a first second nu fits q
+    by false h = other_cell i j a first second nu fits (λ q. grind (arith, nat_tests))
 
 -- ---- frames
 

@@ -1,7 +1,7 @@
 //! Texts with their charges.
-ghost use Rattle.std.specs.Prelude.{◌≡◌, ◌≤◌, IfErr};
+ghost use Rattle.std.specs.Prelude.{◌≡◌, ◌≤◌, IfOk, IfErr};
 ghost use Rattle.turk_base.specs.Prog.{made};
-ghost use Rattle.turk_base.specs.Errors.{text_from};
+ghost use Rattle.turk_base.specs.Errors.{index_text, text_from};
 ghost use Rattle.value_cells.specs.Seen.{val_in};
 ghost use Rattle.run_host.specs.Moment.{cells};
 ghost use Rattle.run_host.specs.Told.{exit_needs};
@@ -10,7 +10,8 @@ ghost use Rattle.run_host.specs.Steps.{Takes};
 use crate::values::plain_text;
 use run_host::{Exit, Halt, Host, Refusal};
 use std::alloc::Global;
-use turk_base::Units;
+use itoa::Buffer;
+use turk_base::{NoMemory, Units};
 use value_cells::Value;
 
 /// A text that is made pays its length, and has at most 1,048,576 units.
@@ -43,4 +44,12 @@ pub fn text_of<H: Host>(alloc: Global, host: &mut H, value: &Value) -> Result<Un
         Some(text) => paid(host, text),
         None => Err(Exit::Halted(Halt::Refused(Refusal::NoPrimitive))),
     }
+}
+
+/// The decimal text of an index.
+pub fn index_key(alloc: Global, index: u64) -> Result<Units, NoMemory>
+    ensures { IfOk result (λ key. key ≡ index_text index) }
+{
+    let mut buffer = Buffer::new();
+    Units::from_bytes(alloc, buffer.format(index).as_bytes())
 }

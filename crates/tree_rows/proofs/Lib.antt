@@ -5,3 +5,4 @@ pub mod Vars
 pub mod Each
 pub mod Clauses
 pub mod Members
+pub mod Items

@@ -1,6 +1,7 @@
 //! The rows of the evaluator: what each kind of node does, over a host and over what runs the nodes below.
 #![tactic(auto)]
 
+mod arrays;
 mod below;
 mod codes;
 mod expressions;

@@ -44,7 +44,7 @@ impl<
         requires below { Nests H H.moment H.is_sound (table_in codes.now) self.now.left (E.pre self.now.expr) (E.post self.now.expr) (S.pre self.now.stmt) (S.post self.now.stmt) }
         requires sound { H.is_sound host.old }
         requires here { here_needs here ≤ cells (H.moment host.old) }
-        ensures ran { Takes (λ nu. each (expr_to (table_in codes.now) self.now.left) (here_in nu here) es.now) (λ nu vs. map (val_in nu) vs.items) result (H.moment host.old) (H.moment host.new) }
+        ensures did { Takes (λ nu. each (expr_to (table_in codes.now) self.now.left) (here_in nu here) es.now) (λ nu vs. map (val_in nu) vs.items) result (H.moment host.old) (H.moment host.new) }
         ensures exists { IfOk result (λ vs. all_needs vs.items ≤ cells (H.moment host.new)) }
         ensures more { cells (H.moment host.old) ≤ cells (H.moment host.new) }
         ensures thrown { IfErr result (λ x. exit_needs x ≤ cells (H.moment host.new)) }
@@ -53,9 +53,7 @@ impl<
         let mut values = Vec::new(self.alloc);
         for e in es {
             let value = self.expr(codes, host, here, e)?;
-            if values.push(value).is_err() {
-                return Err(Exit::from(NoMemory));
-            }
+            push(&mut values, value)?;
         }
         Ok(values)
     }
@@ -72,7 +70,7 @@ impl<
         requires below { Nests H H.moment H.is_sound (table_in codes.now) self.now.left (E.pre self.now.expr) (E.post self.now.expr) (S.pre self.now.stmt) (S.post self.now.stmt) }
         requires sound { H.is_sound host.old }
         requires here { here_needs here ≤ cells (H.moment host.old) }
-        ensures ran { Takes (λ nu. member (expr_to (table_in codes.now) self.now.left) (here_in nu here) b.now (Key-F.Computed k.now)) (λ nu p. (val_in nu p.0, p.1)) result (H.moment host.old) (H.moment host.new) }
+        ensures did { Takes (λ nu. member (expr_to (table_in codes.now) self.now.left) (here_in nu here) b.now (Key-F.Computed k.now)) (λ nu p. (val_in nu p.0, p.1)) result (H.moment host.old) (H.moment host.new) }
         ensures exists { IfOk result (λ p. needs p.0 ≤ cells (H.moment host.new)) }
         ensures more { cells (H.moment host.old) ≤ cells (H.moment host.new) }
         ensures thrown { IfErr result (λ x. exit_needs x ≤ cells (H.moment host.new)) }
@@ -86,7 +84,7 @@ impl<
     }
 
     /// A base and a key; the property is not looked up yet.
-    fn member(
+    pub(crate) fn member(
         &self,
         codes: &Codes,
         host: &mut H,
@@ -97,7 +95,7 @@ impl<
         requires below { Nests H H.moment H.is_sound (table_in codes.now) self.now.left (E.pre self.now.expr) (E.post self.now.expr) (S.pre self.now.stmt) (S.post self.now.stmt) }
         requires sound { H.is_sound host.old }
         requires here { here_needs here ≤ cells (H.moment host.old) }
-        ensures ran { Takes (λ nu. member (expr_to (table_in codes.now) self.now.left) (here_in nu here) b.now (out-Key k.now)) (λ nu p. (val_in nu p.0, p.1)) result (H.moment host.old) (H.moment host.new) }
+        ensures did { Takes (λ nu. member (expr_to (table_in codes.now) self.now.left) (here_in nu here) b.now (out-Key k.now)) (λ nu p. (val_in nu p.0, p.1)) result (H.moment host.old) (H.moment host.new) }
         ensures exists { IfOk result (λ p. needs p.0 ≤ cells (H.moment host.new)) }
         ensures more { cells (H.moment host.old) ≤ cells (H.moment host.new) }
         ensures thrown { IfErr result (λ x. exit_needs x ≤ cells (H.moment host.new)) }
@@ -114,7 +112,7 @@ impl<
     }
 
     /// A target, a callee or the operand of typeof.
-    fn place<'a>(
+    pub(crate) fn place<'a>(
         &self,
         codes: &Codes,
         host: &mut H,
@@ -124,7 +122,7 @@ impl<
         requires below { Nests H H.moment H.is_sound (table_in codes.now) self.now.left (E.pre self.now.expr) (E.post self.now.expr) (S.pre self.now.stmt) (S.post self.now.stmt) }
         requires sound { H.is_sound host.old }
         requires here { here_needs here ≤ cells (H.moment host.old) }
-        ensures ran { Takes (λ nu. place (expr_to (table_in codes.now) self.now.left) (here_in nu here) e.now) place_in result (H.moment host.old) (H.moment host.new) }
+        ensures did { Takes (λ nu. place (expr_to (table_in codes.now) self.now.left) (here_in nu here) e.now) place_in result (H.moment host.old) (H.moment host.new) }
         ensures exists { IfOk result (λ p. place_needs p ≤ cells (H.moment host.new)) }
         ensures more { cells (H.moment host.old) ≤ cells (H.moment host.new) }
         ensures thrown { IfErr result (λ x. exit_needs x ≤ cells (H.moment host.new)) }

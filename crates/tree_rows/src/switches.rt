@@ -85,7 +85,7 @@ impl<
         requires sound { H.is_sound host.old }
         requires here { here_needs here ≤ cells (H.moment host.old) }
         requires value { needs value.now ≤ cells (H.moment host.old) }
-        ensures ran { Takes (λ nu go. test_clause (table_in codes.now) (expr_to (table_in codes.now) self.now.left) (stmt_to (table_in codes.now) self.now.left) (here_in nu here) (val_in nu value.now) (option_copied test.entry) (go true) (go false)) (λ nu b. b) result (H.moment host.old) (H.moment host.new) }
+        ensures did { Takes (λ nu go. test_clause (table_in codes.now) (expr_to (table_in codes.now) self.now.left) (stmt_to (table_in codes.now) self.now.left) (here_in nu here) (val_in nu value.now) (option_copied test.entry) (go true) (go false)) (λ nu b. b) result (H.moment host.old) (H.moment host.new) }
         ensures more { cells (H.moment host.old) ≤ cells (H.moment host.new) }
         ensures thrown { IfErr result (λ x. exit_needs x ≤ cells (H.moment host.new)) }
         ensures sound { H.is_sound host.new }

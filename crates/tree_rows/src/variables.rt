@@ -57,7 +57,7 @@ impl<
         requires below { Nests H H.moment H.is_sound (table_in codes.now) self.now.left (E.pre self.now.expr) (E.post self.now.expr) (S.pre self.now.stmt) (S.post self.now.stmt) }
         requires sound { H.is_sound host.old }
         requires here { here_needs here ≤ cells (H.moment host.old) }
-        ensures ran { Takes (λ nu. variable_row (table_in codes.now) (expr_to (table_in codes.now) self.now.left) (stmt_to (table_in codes.now) self.now.left) (here_in nu here) (out-Variable x.now).named (out-Variable x.now).value) (λ nu u. u) result (H.moment host.old) (H.moment host.new) }
+        ensures did { Takes (λ nu. variable_row (table_in codes.now) (expr_to (table_in codes.now) self.now.left) (stmt_to (table_in codes.now) self.now.left) (here_in nu here) (out-Variable x.now).named (out-Variable x.now).value) (λ nu u. u) result (H.moment host.old) (H.moment host.new) }
         ensures more { cells (H.moment host.old) ≤ cells (H.moment host.new) }
         ensures thrown { IfErr result (λ x. exit_needs x ≤ cells (H.moment host.new)) }
         ensures sound { H.is_sound host.new }

@@ -1,5 +1,4 @@
-use Rattle.std.proofs.Common.{ap, subst}
-use Rattle.std.specs.Prelude.{Ok, Err}
+use Rattle.std.proofs.Common.{subst}
 use Rattle.turk_base.specs.Values as model
 use Rattle.turk_base.specs.Prog.{Done, made}
 use Rattle.turk_base.specs.Errors.{error_cell}

@@ -4,7 +4,7 @@ use Rattle.turk_base.specs.Prog.{value}
 use Rattle.js_tree.specs.Expressions.{literal_row}
 use Rattle.run_host.proofs.Sequence.{ends_with, no_memory}
 use Rattle.run_host.proofs.Exits.{value_exit}
-use Rattle.host_steps.proofs.Made.{runs_as, exit_lost}
+use Rattle.host_steps.proofs.Made.{runs_as}
 use Rattle.host_steps.proofs.literals.literal.Goals as goal
 
 pub returns-in-Null-clause-ran : goal.returns-in-Null-clause-ran

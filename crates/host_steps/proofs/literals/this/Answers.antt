@@ -1,5 +1,4 @@
 use Rattle.std.proofs.Common.{ap}
-use Rattle.turk_base.specs.Values.{Normal}
 use Rattle.turk_base.specs.Prog.{value}
 use Rattle.js_tree.specs.Expressions.{this_row}
 use Rattle.run_host.specs.Told.{this_in}

@@ -1,9 +1,8 @@
-use Rattle.std.proofs.Common.{ap, ◌∙◌, sym}
+use Rattle.std.proofs.Common.{ap, sym}
 use Rattle.turk_base.specs.Prog.{WriteName, ask}
-use Rattle.js_tree.specs.Pieces.{set_bound}
 use Rattle.value_cells.specs.Seen.{val_in}
 use Rattle.run_host.specs.Told.{here_in}
-use Rattle.run_host.proofs.Sequence.{leads_then, leads_out, gives_on, leaves_on}
+use Rattle.run_host.proofs.Sequence.{leads_then, gives_on}
 use Rattle.run_host.proofs.Exits.{takes_exit}
 use Rattle.run_host.proofs.Fits.{takes_as, leads_eq, leaves_lost}
 use Rattle.host_steps.proofs.Made.{leaves_thrown}
@@ -11,7 +10,7 @@ use Rattle.host_steps.proofs.Parts.{own_stays, other_set, built_in_set, undeclar
 use Rattle.host_steps.proofs.names.set_variable.Goals as goal
 
 pub returns-then-x-clause-did : goal.returns-then-x-clause-did
-returns-then-x-clause-did g c = own_stays c.args.x.now _ c.in-Out.is c.if-x.true _ _
+returns-then-x-clause-did g c = own_stays c.args.x.now _ c.in-Out.is c.if-x.true (λ nu. here_in nu c.args.here) (λ nu. val_in nu c.args.value.now)
 
 pub returns-in_err-copy-in-Out-clause-did : goal.returns-in_err-copy-in-Out-clause-did
 returns-in_err-copy-in-Out-clause-did g c = takes_exit _ _ c.from_residual.ensures.1 leaves_lost

@@ -1,7 +1,6 @@
 use Rattle.std.proofs.Common.{ap, sym}
-use Rattle.turk_base.specs.Errors.{type_error, reference_error}
+use Rattle.turk_base.specs.Errors.{reference_error}
 use Rattle.run_host.specs.Told.{told_exit}
-use Rattle.run_host.proofs.Sequence.{no_memory}
 use Rattle.host_steps.proofs.Made.{onward_eq, exit_lost}
 use Rattle.host_steps.proofs.names.undeclared.Goals as goal
 

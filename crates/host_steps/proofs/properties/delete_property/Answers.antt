@@ -1,9 +1,9 @@
 use Rattle.std.proofs.Common.{ap, ◌∙◌, not}
 use Rattle.turk_base.specs.Values.{Truth, Normal}
-use Rattle.turk_base.specs.Prog.{Remove, ask, value}
+use Rattle.turk_base.specs.Prog.{value}
 use Rattle.js_tree.specs.Operate.{delete_property}
 use Rattle.value_cells.specs.Seen.{val_in}
-use Rattle.run_host.specs.Told.{Says, told_exit, told_value}
+use Rattle.run_host.specs.Told.{Says}
 use Rattle.run_host.proofs.Sequence.{ends_with}
 use Rattle.run_host.proofs.Exits.{value_exit}
 use Rattle.run_host.proofs.Fits.{runs_on, runs_left}

@@ -1,5 +1,4 @@
-use Rattle.std.proofs.Common.{ap, subst}
-use Rattle.std.specs.Option.{option_map}
+use Rattle.std.proofs.Common.{ap}
 use Rattle.turk_base.specs.Errors.{or_undefined}
 use Rattle.js_tree.specs.Pieces.{get_property}
 use Rattle.value_cells.specs.Seen.{val_in}

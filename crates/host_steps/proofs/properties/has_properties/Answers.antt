@@ -1,5 +1,4 @@
 use Rattle.std.proofs.Common.{ap}
-use Rattle.std.specs.Prelude.{codes}
 use Rattle.js_tree.specs.Pieces.{has_properties}
 use Rattle.value_cells.specs.Seen.{val_in}
 use Rattle.host_steps.proofs.Made.{leaves_thrown}

@@ -1,4 +1,4 @@
-use Rattle.std.proofs.Common.{arith, length}
+use Rattle.std.proofs.Common.{arith}
 use Rattle.run_host.proofs.Exits.{takes_exit}
 use Rattle.run_host.proofs.Sequence.{leads_then, leads_out, gives_on, leaves_on}
 use Rattle.host_steps.proofs.Made.{too_long, paid_leads}

@@ -1,8 +1,5 @@
 use Rattle.run_host.proofs.Exits.{takes_exit}
-use Rattle.run_host.proofs.Fits.{takes_as, leaves_lost, leads_eq}
-use Rattle.std.proofs.Common.{ap, sym, ◌∙◌}
-use Rattle.turk_base.specs.Errors.{text_from}
-use Rattle.value_cells.specs.Seen.{val_in}
+use Rattle.run_host.proofs.Fits.{takes_as, leaves_lost}
 use Rattle.host_steps.proofs.Made.{text_leads, text_refused, text_kept}
 use Rattle.host_steps.proofs.texts.text_of.Goals as goal
 
