@@ -6,3 +6,4 @@ pub mod Each
 pub mod Clauses
 pub mod Members
 pub mod Items
+pub mod Tries
