@@ -62,8 +62,8 @@ fn stays(kind: CellKind, key: &Units) -> bool
 }
 
 impl RunHeap {
-    // the prototype of a cell, where it has one
-    fn above(&self, cell: u32) -> Option<u32>
+    /// The prototype of a cell, where it has one: a cell that was made before it.
+    pub fn above(&self, cell: u32) -> Option<u32>
         requires { cell < count self.now }
         ensures chain { MatchOption result (chain_of (kinds_of self.now.cells.now) cell ≡ []) (λ p. chain_of (kinds_of self.now.cells.now) cell ≡ p ∷ chain_of (kinds_of self.now.cells.now) p) }
         ensures older { IfSome result (λ p. p < cell) }

@@ -1,17 +1,20 @@
 //! The heap of a run: cells by numbers, with the touches and the charges of each access.
 #![tactic(auto)]
 
+use branch_check::MonitorMark;
 use slot_watch::SlotWatch;
 use std::alloc::Global;
 use std::marker::Model;
 use turk_base::Path;
-use value_cells::Cells;
+use value_cells::{Cells, Mark};
 
 mod accesses;
 mod begin;
 mod classes;
+mod listing;
 mod making;
 mod puts;
+mod scopes;
 mod steps;
 mod trims;
 
@@ -52,16 +55,20 @@ impl Model for RunHeap {
     ghost invariant = { IsKept };
 }
 
-/// An open scope of a RunHeap. Contracts see how many scopes were around it.
+/// An open scope of a RunHeap: the marks of its cells and of its slots. Contracts see how many
+/// scopes were around it.
 #[derive(Drop)]
 pub struct Opened {
-    depth: usize,
+    cells: Mark,
+    slots: MonitorMark,
 }
 
 impl Model for Opened {
-    ghost use Rattle.std.specs.Prelude.{ℕ};
+    ghost use Rattle.std.specs.Prelude.{ℕ, ◌≡◌};
 
     ghost Value = { ℕ };
 
-    ghost view = { λ o. o.depth };
+    ghost view = { λ o. o.cells };
+
+    ghost invariant = { λ o. o.cells ≡ o.slots };
 }
