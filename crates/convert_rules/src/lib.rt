@@ -10,4 +10,7 @@ mod tests;
 
 pub use conversions::{reading, text, truth};
 pub use kinds::{Prim, Reading};
-pub use operators::{less, loose, strict};
+pub use literals::read_text;
+pub use operators::{
+    is_before, less, loose, reading_less, readings_equal, same_numbers, same_texts, strict,
+};

@@ -44,7 +44,8 @@ pub fn less(a: &Prim, b: &Prim) -> Option<Option<bool>>
     }
 }
 
-fn readings_equal(a: Reading, b: Reading) -> Option<bool>
+/// `==` of two readings; None exactly where one is Outside.
+pub fn readings_equal(a: Reading, b: Reading) -> Option<bool>
     ensures { spec.readings_equal (reading_of a) (reading_of b) ≡ equal_of result }
 {
     match a {
@@ -61,7 +62,8 @@ fn readings_equal(a: Reading, b: Reading) -> Option<bool>
     }
 }
 
-fn reading_less(a: Reading, b: Reading) -> Option<Option<bool>>
+/// Whether the one reading is less than the other: None exactly where one is Outside, Some(None) exactly where none is and one is Nan.
+pub fn reading_less(a: Reading, b: Reading) -> Option<Option<bool>>
     ensures { result ≡ less_of (spec.numbers_of (reading_of a) (reading_of b)) }
 {
     match a {
@@ -84,20 +86,22 @@ fn is_nothing(v: &Prim) -> bool
     matches!(v, Prim::Undefined | Prim::Null)
 }
 
-fn same_numbers(a: Whole, b: Whole) -> bool
+/// Whether two numbers are the same.
+pub fn same_numbers(a: Whole, b: Whole) -> bool
     ensures { result ≡ same_integer a b }
 {
     a.get() == b.get()
 }
 
-fn same_texts(a: &Units, b: &Units) -> bool
+/// Whether two texts are the same.
+pub fn same_texts(a: &Units, b: &Units) -> bool
     ensures { result ≡ same_units a.now b.now }
 {
     a == b
 }
 
-// by units: the first place where they differ decides, and a shorter text stands before one that begins with it
-fn is_before(a: &[u16], b: &[u16]) -> bool
+/// Whether the one text is before the other by units: the first place where they differ decides, and a shorter text stands before one that begins with it.
+pub fn is_before(a: &[u16], b: &[u16]) -> bool
     ensures { result ≡ units_less a.now b.now }
 {
     let mut x = a;
