@@ -13,5 +13,6 @@ pub mod Scoping
 pub mod Shorter
 pub mod Tables
 pub mod Turn
+pub mod Verdicts
 pub mod Watches
 pub mod Whole

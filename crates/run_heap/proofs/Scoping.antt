@@ -13,10 +13,10 @@ use Rattle.run_heap.specs.declared.Place.{Place}
 use Rattle.run_heap.specs.Core.{Core, names_in}
 use Rattle.run_heap.specs.Scopes.{Enters, LeavesBack, LeavesKeep}
 use Rattle.run_heap.specs.Whole.{Older, IsIn, Nested, Marked, IsCore}
-use Rattle.run_heap.proofs.Tables.{there}
+use Rattle.run_heap.proofs.Tables.{there, path_apart}
 
 older_less : (p : Place) (a b : List Name) → Grows a b → Older p b → Older p a
-older_less p a b g h = record { own = λ i n e s. h.own i n (g i n e) s }
+older_less p a b g h = record { own = λ i n e s. h.own i n (g i n e) s; below = λ i k n e u. h.below i k n (g i n e) u }
 
 -- a list with one more, seen from what it was
 module _ {A : Type 0} (all front : List A) (last : A) (is : all ≡ front ++ last ∷ []) where
@@ -67,6 +67,8 @@ module _ (old : Core) (k : IsCore old) (cells : Held) (slots : Slots) (place : P
   nested_left = record {
     shorter = λ i o e. let w = slice_get_within outer i o e in k.nested.apart i (length outer) o place w (in_front old.outer outer place oo i o e) (at_last old.outer outer place oo);
     apart = λ i j o p l e f. k.nested.apart i j o p l (in_front old.outer outer place oo i o e) (in_front old.outer outer place oo j p f);
+    inside = λ i m o e. let w = slice_get_within outer i o e in k.nested.between i (length outer) m o place w (in_front old.outer outer place oo i o e) (at_last old.outer outer place oo);
+    between = λ i j m o p l e f. k.nested.between i j m o p l (in_front old.outer outer place oo i o e) (in_front old.outer outer place oo j p f);
     branches = λ i o e. k.nested.branches i o (in_front old.outer outer place oo i o e);
     here = k.nested.branches (length outer) place (at_last old.outer outer place oo);
   }
@@ -117,6 +119,40 @@ module _ (old : Core) (k : IsCore old) (cells : Held) (slots : Slots) (place : P
 
 -- ---- entered
 
+-- how many indexes a path has
+depth : Path → ℕ
+depth root = zero
+depth (sub i p) = suc (depth p)
+
+deeper : {p q : Path} → Under p q → depth p ≤ depth q
+unfolding depth
+deeper self = omega arith
+deeper (down u) = let h = deeper u in omega (arith, h)
+
+pub no_loop : {i : ℕ} {p : Path} → Under (sub i p) p → ⊥
+unfolding depth
+no_loop u = let h = deeper u in omega (arith, h)
+
+pub above_of : {i : ℕ} {p q : Path} → Under (sub i p) q → Under p q
+above_of self = down self
+above_of (down u) = down (above_of u)
+
+last_of : ℕ → Path → ℕ
+last_of d root = d
+last_of d (sub i p) = i
+
+before_last : Path → Path
+before_last root = root
+before_last (sub i p) = p
+
+by_step : (m index : ℕ) (p q : Path) (calls : ℕ) → (p ≡ q → m ≡ index → m < calls) → (Under (sub m p) q → m < calls) → Under (sub m p) (sub index q) → m < calls
+by_step m index p q calls here up u = inner (sub index q) refl u
+  where
+    inner : (r : Path) → r ≡ sub index q → Under (sub m p) r → m < calls
+    unfolding last_of before_last
+    inner r e self = here (ap before_last e) (ap (last_of 0) e)
+    inner r e (down {q = z} v) = up (subst (λ p2. Under (sub m p) p2) (ap before_last e) v)
+
 path_push : (p : Path) (l : List ℕ) (i : ℕ) → path_on p (l ++ i ∷ []) ≡ sub i (path_on p l)
 path_push p [] i = refl
 path_push p (j ∷ l) i = path_push (sub j p) l i
@@ -124,7 +160,7 @@ path_push p (j ∷ l) i = path_push (sub j p) l i
 module _ (old : Core) (k : IsCore old) (cells : Held) (slots : Slots) (place : Place) (outer : List Place) (branch : Bool) (index : ℕ)
     (now : cells.now ≡ old.cells.now) (marks : cells.marks ≡ old.cells.marks ++ old.cells.now ∷ []) (current : slots.current ≡ old.slots.current) (kept : slots.marks ≡ old.slots.marks ++ old.slots.current ∷ [])
     (path : place.path ≡ old.place.path ++ index ∷ []) (held : place.branch ≡ (if branch then place.path else old.place.branch)) (outer_is : outer ≡ old.outer ++ old.place ∷ [])
-    (unused : (i : ℕ) (n : Name) → slice_get (names_in old.cells.now) i ≡ Some n → Under (path_in place.path) (home n) → ⊥) where
+    (counted : index < old.place.calls) (unused : (i : ℕ) (n : Name) → slice_get (names_in old.cells.now) i ≡ Some n → Under (path_in place.path) (home n) → ⊥) where
   abbrev pub entered : Core
   entered = record { cells = cells; slots = slots; place = place; outer = outer; left = old.left }
 
@@ -140,13 +176,19 @@ module _ (old : Core) (k : IsCore old) (cells : Held) (slots : Slots) (place : P
   longer_path : length place.path ≡ suc (length old.place.path)
   longer_path = ap length path ∙ length-append old.place.path (index ∷ []) ∙ omega arith
 
-  inside : (b : Bool) → Under (path_in (if b then place.path else old.place.branch)) (path_in place.path)
-  inside true = self
-  inside false = subst (λ p. Under (path_in old.place.branch) p) (sym (ap path_in path ∙ path_push root old.place.path index)) (down k.nested.here)
+  path_is : path_in place.path ≡ sub index (path_in old.place.path)
+  path_is = ap path_in path ∙ path_push root old.place.path index
+
+  holds : (b : Bool) → Under (path_in (if b then place.path else old.place.branch)) (path_in place.path)
+  holds true = self
+  holds false = subst (λ p. Under (path_in old.place.branch) p) (sym (ap path_in path ∙ path_push root old.place.path index)) (down k.nested.here)
 
   pub core_enter : (place.made ≡ 0) → IsCore entered
   core_enter made = record {
-    own = record { own = λ i n e s. absurd (unused i n (ap (λ l. slice_get l i) (sym names) ∙ e) (subst (λ p. Under (path_in place.path) p) (sym s) self)) };
+    own = record {
+      own = λ i n e s. absurd (unused i n (ap (λ l. slice_get l i) (sym names) ∙ e) (subst (λ p. Under (path_in place.path) p) (sym s) self));
+      below = λ i m n e u. absurd (unused i n (ap (λ l. slice_get l i) (sym names) ∙ e) (above_of u));
+    };
     others = on_outer (λ i o. Older o (names_in cells.now)) (λ i o e. subst (Older o) (sym names) (k.others i o e)) (subst (Older old.place) (sym names) k.own);
     nested = record {
       shorter = on_outer (λ i o. length o.path < length place.path) (λ i o e. let h = k.nested.shorter i o e in omega (arith, h, longer_path)) (omega (arith, longer_path));
@@ -155,8 +197,16 @@ module _ (old : Core) (k : IsCore old) (cells : Held) (slots : Slots) (place : P
           on_outer (λ j p. i < j → length o.path < length p.path)
           (λ j p f l. let w = slice_get_within old.outer j p f in k.nested.apart i j o p l (front_of old.outer old.place i o e2 (omega (arith, w, l))) f)
           (λ l. k.nested.shorter i o (front_of old.outer old.place i o e2 l)) j p f l;
+      inside = λ i m o e u. on_outer (λ i o. Under (sub m (path_in o.path)) (path_in place.path) → m < o.calls)
+          (λ i o e u. let h = k.nested.shorter i o e in by_step m index (path_in o.path) (path_in old.place.path) o.calls (λ q. absurd (let z = ap length (path_apart o.path old.place.path q) in omega (arith, h, z))) (λ v. k.nested.inside i m o e v) (subst (λ p. Under (sub m (path_in o.path)) p) path_is u))
+          (λ u. by_step m index (path_in old.place.path) (path_in old.place.path) old.place.calls (λ q e. subst (λ (j : ℕ). j < old.place.calls) (sym e) counted) (λ v. absurd (no_loop v)) (subst (λ p. Under (sub m (path_in old.place.path)) p) path_is u)) i o e u;
+      between = λ i j m o p l e f.
+          let e2 = ap (λ l. slice_get l i) (sym outer_is) ∙ e in
+          on_outer (λ j p. i < j → Under (sub m (path_in o.path)) (path_in p.path) → m < o.calls)
+          (λ j p f l. let w = slice_get_within old.outer j p f in k.nested.between i j m o p l (front_of old.outer old.place i o e2 (omega (arith, w, l))) f)
+          (λ l. k.nested.inside i m o (front_of old.outer old.place i o e2 l)) j p f l;
       branches = on_outer (λ i o. IsIn o) (λ i o e. k.nested.branches i o e) k.nested.here;
-      here = subst (λ b. Under (path_in b) (path_in place.path)) (sym held) (inside branch);
+      here = subst (λ b. Under (path_in b) (path_in place.path)) (sym held) (holds branch);
     };
     marked = record {
       first = on_marks (λ i a. Grows (names_in a) (names_in cells.now)) (λ i a e. subst (Grows (names_in a)) (sym names) (k.marked.first i a e)) (subst (Grows (names_in old.cells.now)) (sym names) (λ i n e. e));

@@ -7,5 +7,6 @@ pub mod Placed
 pub mod Scopes
 pub mod Stays
 pub mod Stored
+pub mod Watching
 pub mod Whole
 pub mod Works

@@ -17,14 +17,16 @@ mod puts;
 mod scopes;
 mod steps;
 mod trims;
+mod watching;
 
-/// The scope that runs or one around it: its path, the branch that holds it, and how many cells
-/// were made in it.
+/// The scope that runs or one around it: its path, the branch that holds it, how many cells were
+/// made in it, and how many of its calls took an index.
 #[derive(Drop)]
 pub struct Place {
     pub path: Path,
     pub branch: Path,
     pub made: u64,
+    pub calls: u32,
 }
 
 /// Cells with their properties, the watch over their slots, the scopes that are open, and the fuel

@@ -1,10 +1,9 @@
 //! Scopes: entered, left and taken back, left and kept.
-ghost use Rattle.std.specs.Prelude.{◌≡◌, ◌<◌, ◌∷◌, ◌++◌, [], ℕ, Some, slice_get, length, IfOk, IfErr, OnOk, OnErr, if◌then◌else◌};
-ghost use Rattle.turk_base.specs.Names.{path_in, Name, Under, home};
+ghost use Rattle.std.specs.Prelude.{◌≡◌, ◌<◌, ◌+◌, ◌∷◌, ◌++◌, [], length, IfOk, IfErr, OnOk, OnErr, if◌then◌else◌};
 ghost use Rattle.value_cells.specs.Held.{Cell};
 ghost use Rattle.branch_check.specs.Watch.{Kept};
 ghost use Rattle.run_heap.specs.Core.{names_in};
-ghost use Rattle.run_heap.specs.Scopes.{Enters, LeavesBack, LeavesKeep};
+ghost use Rattle.run_heap.specs.Scopes.{IsReady, Enters, LeavesBack, LeavesKeep};
 
 use crate::{Opened, Place, RunHeap};
 use slot_watch::SlotWatch;
@@ -48,12 +47,33 @@ fn holder(alloc: Global, path: &Path, around: &Path, branch: bool) -> Result<Pat
 }
 
 impl RunHeap {
-    /// Enters the scope at a path below the one that runs, in which no cell was made: a branch, which
+    /// The path of the scope that runs.
+    pub fn path(&self) -> &Path
+        ensures { result.now ≡ self.now.place.path }
+    {
+        &self.place.path
+    }
+
+    /// Takes the index of the next call of the scope that runs, and answers its path. After want of
+    /// memory nothing changed.
+    pub fn next_call(&mut self, alloc: Global) -> Result<Path, NoMemory>
+        requires { self.old.place.calls < 4294967295 }
+        ensures path { IfOk result (λ p. p ≡ self.old.place.path ++ self.old.place.calls ∷ []) }
+        ensures ready { IfOk result (λ p. IsReady p self.new.place.path self.new.place.calls (names_in self.new.cells.now)) }
+        ensures counted { OnOk result (self.new ≡ record self.old { place = record self.old.place { calls = self.old.place.calls + 1 } }) }
+        ensures same { OnErr result (self.new ≡ self.old) }
+    {
+        let mut path = self.place.path.copy(alloc)?;
+        path.push(self.place.calls)?;
+        self.place.calls += 1;
+        Ok(path)
+    }
+
+    /// Enters the scope of a call of the scope that runs, in which no cell was made: a branch, which
     /// holds itself, or a once body, which the branch around holds. After want of memory nothing
     /// changed.
     pub fn enter(&mut self, path: &Path, branch: bool) -> Result<Opened, OpStop>
-        requires below { (index : ℕ) × (path.now ≡ self.old.place.path ++ index ∷ []) }
-        requires unused { (i : ℕ) (n : Name) → slice_get (names_in self.old.cells.now) i ≡ Some n → Under (path_in path.now) (home n) → ⊥ }
+        requires { IsReady path.now self.old.place.path self.old.place.calls (names_in self.old.cells.now) }
         ensures ok { OnOk result (Enters path.now branch self.old self.new) }
         ensures opened { IfOk result (λ o. o ≡ length self.new.outer) }
         ensures err { IfErr result (λ e. e ≡ OpStop.Memory) }
@@ -69,6 +89,7 @@ impl RunHeap {
             path: inner,
             branch: held,
             made: 0,
+            calls: 0,
         };
         let around = mem::replace(&mut self.place, entered);
         let _ = self.outer.push(around);
@@ -76,18 +97,20 @@ impl RunHeap {
     }
 
     /// Leaves the newest open scope, and takes back all that was done in it but for the fuel. It takes
-    /// no memory.
-    pub fn leave_back(&mut self, opened: Opened)
+    /// no memory. It answers the path of the scope that was left.
+    pub fn leave_back(&mut self, opened: Opened) -> Path
         requires open { 0 < length self.old.outer }
         requires newest { opened ≡ length self.old.outer }
-        ensures { LeavesBack self.old self.new }
+        ensures back { LeavesBack self.old self.new }
+        ensures path { result ≡ self.old.place.path }
     {
         self.cells.take_back(opened.cells);
         self.slots.take_back(opened.slots);
         let Some(around) = self.outer.pop() else {
             unreachable!()
         };
-        self.place = around;
+        let left = mem::replace(&mut self.place, around);
+        left.path
     }
 
     /// Leaves the newest open scope, and keeps what was done in it. It takes no memory.
