@@ -108,6 +108,17 @@ run_kept m h k r l = record {
   ordered = k.ordered;
 }
 
+-- the cells and the scopes around are the same
+pub run_same : (m : Run) (h : Core) → IsRun m → h.cells ≡ m.heap.cells → h.outer ≡ m.heap.outer → IsRun (with_heap m h)
+run_same m h k c o = record {
+  values = omega (arith, k.values, (λ i. length (c i).now));
+  kept_values = λ i q cells e f. k.kept_values i q cells e ((λ x. slice_get (sym c x).marks i) ∙ f);
+  as_many = k.as_many ∙ ap length (sym o);
+  printed = k.printed;
+  absent = k.absent;
+  ordered = k.ordered;
+}
+
 pub room_kept : (m : Run) (h : Core) (n : ℕ) → HasRoom m n → HasRoom (with_heap m h) n
 room_kept m h n k = record { kept = k.kept; now = k.now }
 

@@ -67,3 +67,8 @@ module _ (n : ℕ) (m m' : Run) (a : Alike n m m') where
       let b = back_same i (omega arith) in
       let r = scopes_same i (omega arith) in
       λ x. scope_of (b x) (s.place x) (s.outer x) ∷ r x
+
+-- as many scopes are seen as there are around
+pub scopes_many : (m : Run) (n : ℕ) → length (scopes m n) ≡ n
+scopes_many m zero = refl
+scopes_many m (suc i) = ap suc (scopes_many m i)

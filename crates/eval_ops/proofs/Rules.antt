@@ -8,7 +8,6 @@ use Rattle.run_heap.specs.Core.{Core, names_in, Rests}
 use Rattle.run_heap.specs.Placed.{known_of, props_of}
 use Rattle.run_heap.specs.Watching.{Watches}
 use Rattle.eval_ops.specs.Run.{Run, seen_of}
-use Rattle.eval_ops.specs.Stored.{IsRun, HasRoom}
 use Rattle.eval_ops.specs.Calls.{Changes}
 use Rattle.eval_ops.proofs.Marks.{Fronts}
 use Rattle.eval_ops.proofs.Machines.{rests_base, changes, with_heap}
@@ -43,7 +42,7 @@ module _ (m : Run) (h : Core) (r : Rests m.heap h) (f : Watch → Watch) (w : Wa
 
 -- ---- an index is taken
 
-module _ (m : Run) (k : IsRun m) where
+module _ (m : Run) where
   abbrev pub called : Run
   called = record m { heap = record m.heap { place = record m.heap.place { calls = m.heap.place.calls + 1 } } }
 

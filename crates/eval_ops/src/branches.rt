@@ -33,12 +33,10 @@ impl Machine {
     pub fn absent(&mut self)
         ensures { Changes (λ nu σ. notes self.old.left_back σ) (seen_of self.old) (seen_of self.new) }
     {
-        match mem::replace(&mut self.left_back, None) {
-            None => {}
-            Some(path) => {
-                let _ = self.gone.push(path);
-            }
-        }
+        let Some(path) = mem::replace(&mut self.left_back, None) else {
+            return;
+        };
+        let _ = self.gone.push(path);
     }
 
     /// Adds a value at the end of the values of the branches of the scope that runs. After want of
@@ -48,10 +46,10 @@ impl Machine {
         ensures ok { OnOk result (Changes (λ nu σ. give_value (val_in nu value) σ) (seen_of self.old) (seen_of self.new)) }
         ensures err { IfErr result (λ e. e ≡ OpStop.Memory) }
     {
-        match self.values.push(value) {
-            Ok(()) => Ok(()),
-            Err(_) => Err(OpStop::Memory),
+        if self.values.push(value).is_err() {
+            return Err(OpStop::Memory);
         }
+        Ok(())
     }
 
     /// Joins the branches of the scope that runs: None exactly where one is absent, and then nothing

@@ -1,13 +1,12 @@
-//! Data taken and put.
+//! Data put.
 ghost use Rattle.std.specs.Prelude.{◌≡◌, ◌≤◌, IfOk};
 ghost use Rattle.turk_base.specs.Data.{nesting};
-ghost use Rattle.turk_base.specs.Steps.{taking, put_data as puts};
+ghost use Rattle.turk_base.specs.Steps.{put_data as puts};
 ghost use Rattle.value_cells.specs.Needs.{needs};
 ghost use Rattle.value_cells.specs.Seen.{val_in};
 ghost use Rattle.value_cells.specs.Does.{told};
 ghost use Rattle.run_heap.specs.Works.{Performs};
 ghost use Rattle.run_data.specs.Short.{IsShort};
-ghost use Rattle.run_data.specs.Taken.{told_taken};
 ghost use Rattle.eval_ops.specs.Run.{seen_of, count};
 
 use crate::Machine;
@@ -15,15 +14,6 @@ use turk_base::Data;
 use value_cells::{OpStop, Value};
 
 impl Machine {
-    /// Takes the data of a value, which costs its size; None exactly where it has none.
-    pub fn take(&mut self, value: &Value) -> Result<Option<Data>, OpStop>
-        requires { needs value.now ≤ count self.old }
-        ensures did { Performs (λ nu. taking (val_in nu value.now)) (λ nu. told_taken result) (seen_of self.old) (seen_of self.new) }
-        ensures more { count self.old ≤ count self.new }
-    {
-        run_data::take(self.alloc, &mut self.heap, value)
-    }
-
     /// The value of a data, with new cells of the scope that runs. It costs the data's size.
     pub fn put_data(&mut self, from: &Data) -> Result<Value, OpStop>
         requires short { IsShort from.now }

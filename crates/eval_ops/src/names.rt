@@ -1,5 +1,5 @@
 //! Names in frames, and the listing of keys.
-ghost use Rattle.std.specs.Prelude.{◌≡◌, ◌<◌, ◌≤◌, None, IfOk, IsSome};
+ghost use Rattle.std.specs.Prelude.{◌≡◌, ◌<◌, ◌≤◌, true, false, None, IfOk, IsSome};
 ghost use Rattle.turk_base.specs.Prog.{Keys, ReadName, WriteName, Declare};
 ghost use Rattle.value_cells.specs.Needs.{needs};
 ghost use Rattle.value_cells.specs.Held.{own};
@@ -12,6 +12,15 @@ use turk_base::Units;
 use value_cells::{OpStop, Value};
 
 impl Machine {
+    /// Whether a frame has a name. It touches and costs nothing.
+    pub fn has(&self, frame: u32, name: &Units) -> bool
+        requires { frame < count self.now }
+        ensures there { result ≡ true → IsSome (own self.now.heap.cells.now frame name.now) }
+        ensures missing { result ≡ false → own self.now.heap.cells.now frame name.now ≡ None }
+    {
+        self.heap.has(frame, name)
+    }
+
     /// Reads a name that the frame has.
     pub fn read_name(&mut self, frame: u32, name: &Units) -> Result<Value, OpStop>
         requires frame { frame < count self.old }

@@ -1,31 +1,22 @@
 //! What is printed.
-ghost use Rattle.std.specs.Prelude.{◌≡◌, ◌≤◌, ◌∷◌, ◌++◌, [], IfErr, OnOk, OnErr};
+ghost use Rattle.std.specs.Prelude.{◌≡◌, ◌≤◌, ◌∷◌, ◌++◌, [], OnOk, OnErr};
 ghost use Rattle.turk_base.specs.Prog.{Print};
 ghost use Rattle.value_cells.specs.Does.{Does, told};
 ghost use Rattle.eval_ops.specs.Run.{seen_of, count};
 
 use crate::Machine;
 use std::alloc::Global;
-use turk_base::Units;
+use turk_base::{NoMemory, Units};
 use value_cells::OpStop;
 
 // a line and its line feed at the end of a text; after a refusal nothing changed
-fn add_line(alloc: Global, text: &mut Units, line: &Units) -> Result<(), OpStop>
+fn add_line(alloc: Global, text: &mut Units, line: &Units) -> Result<(), NoMemory>
     ensures ok { OnOk result (text.new ≡ text.old ++ (line.now ++ 10 ∷ [])) }
-    ensures err { IfErr result (λ e. e ≡ OpStop.Memory) }
-    ensures same { OnErr result (text.new ≡ text.old) }
+    ensures err { OnErr result (text.new ≡ text.old) }
 {
-    let mut whole = match line.copy(alloc) {
-        Ok(whole) => whole,
-        Err(_) => return Err(OpStop::Memory),
-    };
-    if whole.push(10).is_err() {
-        return Err(OpStop::Memory);
-    }
-    match text.append(&whole) {
-        Ok(()) => Ok(()),
-        Err(_) => Err(OpStop::Memory),
-    }
+    let mut whole = line.copy(alloc)?;
+    whole.push(10)?;
+    text.append(&whole)
 }
 
 impl Machine {

@@ -23,6 +23,13 @@ fn cut(alloc: Global, text: &mut Units, length: usize)
 }
 
 impl Machine {
+    /// How many calls of the scope that runs took an index.
+    pub fn calls(&self) -> u32
+        ensures { result ≡ self.now.heap.place.calls }
+    {
+        self.heap.calls()
+    }
+
     /// Takes the index of the next call of the scope that runs, and gives its path. After want of
     /// memory nothing changed.
     pub fn next_call(&mut self, alloc: Global) -> Result<Path, OpStop>
@@ -33,17 +40,15 @@ impl Machine {
         ensures err { IfErr result (λ e. e ≡ OpStop.Memory) }
         ensures same { OnErr result (self.new ≡ self.old) }
     {
-        match self.heap.next_call(alloc) {
-            Ok(path) => Ok(path),
-            Err(_) => Err(OpStop::Memory),
-        }
+        let path = self.heap.next_call(alloc)?;
+        Ok(path)
     }
 
     /// Enters the scope of the call that took its index last: a branch, or a once body.
     pub fn enter(&mut self, path: &Path, branch: bool) -> Result<Entered, OpStop>
         requires { IsReady path.now self.old.heap.place.path self.old.heap.place.calls (names_in self.old.heap.cells.now) }
         ensures ok { OnOk result (Enters (path_in path.now) branch (seen_of self.old) (seen_of self.new)) }
-        ensures entered { IfOk result (λ e. e ≡ length self.new.outer) }
+        ensures entered { IfOk result (λ e. e ≡ length (seen_of self.new).outer) }
         ensures err { IfErr result (λ e. e ≡ OpStop.Memory) }
     {
         if self.outer.reserve(1).is_err() {
@@ -69,8 +74,8 @@ impl Machine {
     /// Leaves the newest open scope, and takes back all that was done in it but for the fuel. It takes
     /// no memory.
     pub fn leave_back(&mut self, entered: Entered)
-        requires newest { entered ≡ length self.old.outer }
-        requires open { 0 < length self.old.outer }
+        requires newest { entered ≡ length (seen_of self.old).outer }
+        requires open { 0 < length (seen_of self.old).outer }
         ensures left { LeavesBack (seen_of self.old) (seen_of self.new) }
         ensures noted { self.new.left_back ≡ Some self.old.heap.place.path }
     {
@@ -87,8 +92,8 @@ impl Machine {
 
     /// Leaves the newest open scope, and keeps what was done in it. It takes no memory.
     pub fn leave_keep(&mut self, entered: Entered)
-        requires newest { entered ≡ length self.old.outer }
-        requires open { 0 < length self.old.outer }
+        requires newest { entered ≡ length (seen_of self.old).outer }
+        requires open { 0 < length (seen_of self.old).outer }
         ensures { LeavesKeep (seen_of self.old) (seen_of self.new) }
     {
         self.heap.leave_keep(entered.opened);

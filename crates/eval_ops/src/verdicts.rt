@@ -27,7 +27,8 @@ impl Machine {
         ensures err { IfErr result (λ e. e ≡ OpStop.Memory) }
         ensures same { OnErr result (self.new ≡ self.old) }
     {
-        self.heap.threw(branch)
+        self.heap.threw(branch)?;
+        Ok(())
     }
 
     /// The verdict, with slots by the names of their cells and their keys.

@@ -11,7 +11,7 @@ use Rattle.slot_watch.specs.Slots.{Slots}
 use Rattle.slot_watch.specs.Within.{CellsWithin}
 use Rattle.run_heap.specs.declared.Place.{Place}
 use Rattle.run_heap.specs.Core.{Core, names_in}
-use Rattle.run_heap.specs.Scopes.{Enters, LeavesBack, LeavesKeep}
+use Rattle.run_heap.specs.Scopes.{IsReady}
 use Rattle.run_heap.specs.Whole.{Older, IsIn, Nested, Marked, IsCore}
 use Rattle.run_heap.proofs.Tables.{there, path_apart}
 
@@ -146,12 +146,12 @@ before_last root = root
 before_last (sub i p) = p
 
 by_step : (m index : ℕ) (p q : Path) (calls : ℕ) → (p ≡ q → m ≡ index → m < calls) → (Under (sub m p) q → m < calls) → Under (sub m p) (sub index q) → m < calls
-by_step m index p q calls here up u = inner (sub index q) refl u
+unfolding last_of before_last
+by_step m index p q calls here up u = inner u refl
   where
-    inner : (r : Path) → r ≡ sub index q → Under (sub m p) r → m < calls
-    unfolding last_of before_last
-    inner r e self = here (ap before_last e) (ap (last_of 0) e)
-    inner r e (down {q = z} v) = up (subst (λ p2. Under (sub m p) p2) (ap before_last e) v)
+    inner : {r : Path} → Under (sub m p) r → r ≡ sub index q → m < calls
+    inner self e = here (ap before_last e) (ap (last_of 0) e)
+    inner (down v) e = up (subst (λ z. Under (sub m p) z) (ap before_last e) v)
 
 path_push : (p : Path) (l : List ℕ) (i : ℕ) → path_on p (l ++ i ∷ []) ≡ sub i (path_on p l)
 path_push p [] i = refl
@@ -229,3 +229,33 @@ module _ (old : Core) (k : IsCore old) (cells : Held) (slots : Slots) (place : P
     as_many_cells = ap length marks ∙ length-append old.cells.marks (old.cells.now ∷ []) ∙ omega (arith, k.as_many_cells, ap length outer_is, length-append old.outer (old.place ∷ []));
     as_many_slots = ap length kept ∙ length-append old.slots.marks (old.slots.current ∷ []) ∙ omega (arith, k.as_many_slots, ap length outer_is, length-append old.outer (old.place ∷ []));
   }
+
+-- ---- a call takes an index
+
+abbrev pub called : Core → Core
+called c = record c { place = record c.place { calls = c.place.calls + 1 } }
+
+pub core_called : (c : Core) → IsCore c → IsCore (called c)
+core_called c k = record {
+  own = record { own = k.own.own; below = λ i m n e u. let h = k.own.below i m n e u in omega (arith, h) };
+  others = k.others;
+  nested = record { shorter = k.nested.shorter; apart = k.nested.apart; inside = k.nested.inside; between = k.nested.between; branches = k.nested.branches; here = k.nested.here };
+  marked = k.marked;
+  within = k.within;
+  as_many_cells = k.as_many_cells;
+  as_many_slots = k.as_many_slots;
+}
+
+-- no cell stands below an index that was not taken
+pub ready_next : (c : Core) → IsCore c → (p : List ℕ) → p ≡ c.place.path ++ c.place.calls ∷ [] → IsReady p c.place.path (c.place.calls + 1) (names_in c.cells.now)
+ready_next c k p e = record {
+  index = c.place.calls;
+  path = e;
+  counted = omega arith;
+  free = record {
+    unused = λ i n f u.
+        let is : path_in p ≡ sub c.place.calls (path_in c.place.path) = ap path_in e ∙ path_push root c.place.path c.place.calls in
+        let h = k.own.below i c.place.calls n f (subst (λ q. Under q (home n)) is u) in
+        absurd (omega (arith, h));
+  };
+}

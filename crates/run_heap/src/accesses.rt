@@ -132,6 +132,7 @@ impl RunHeap {
         requires there { IsSome (own self.old.cells.now frame name.now) }
         ensures did { Works (λ nu. steps_of (ReadName (nu frame) name.now)) (λ nu. told (val_in nu) result) self.old self.new }
         ensures rests { Rests self.old self.new }
+        ensures cells { self.new.cells ≡ self.old.cells }
         ensures exists { IfOk result (λ v. needs v ≤ count self.new) }
     {
         match self.look(frame, name)? {

@@ -19,6 +19,9 @@ mod steps;
 mod trims;
 mod watching;
 
+pub use accesses::{is_length, length_text};
+pub use classes::{KeyClass, class};
+
 /// The scope that runs or one around it: its path, the branch that holds it, how many cells were
 /// made in it, and how many of its calls took an index.
 #[derive(Drop)]

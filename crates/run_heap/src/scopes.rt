@@ -54,6 +54,13 @@ impl RunHeap {
         &self.place.path
     }
 
+    /// How many calls of the scope that runs took an index.
+    pub fn calls(&self) -> u32
+        ensures { result ≡ self.now.place.calls }
+    {
+        self.place.calls
+    }
+
     /// Takes the index of the next call of the scope that runs, and answers its path. After want of
     /// memory nothing changed.
     pub fn next_call(&mut self, alloc: Global) -> Result<Path, NoMemory>

@@ -34,9 +34,10 @@ impl RunHeap {
     {
         self.cells.known();
         match self.slots.joined(&self.place.path) {
-            Ok(()) => Ok(()),
-            Err(_) => Err(OpStop::Memory),
+            Ok(()) => return Ok(()),
+            Err(_) => {}
         }
+        Err(OpStop::Memory)
     }
 
     /// A branch ended by a throw. After want of memory nothing changed.
@@ -48,9 +49,10 @@ impl RunHeap {
     {
         self.cells.known();
         match self.slots.threw(branch) {
-            Ok(()) => Ok(()),
-            Err(_) => Err(OpStop::Memory),
+            Ok(()) => return Ok(()),
+            Err(_) => {}
         }
+        Err(OpStop::Memory)
     }
 
     // the part of a cell that a number stands for

@@ -14,6 +14,6 @@ returns-clause-did c =
     let ks = keys_of (props_at old.cells.now c.args.cell) in
     let kind = kind_there old.cells.now c.args.cell c.requires in
     let all : (kind : CellKind) (nu : Naming) → slice_get (kinds_of old.cells.now) c.args.cell ≡ Some kind → c.add_listed.new.had.items ≡ add_keys c.args.had.now.items (without_length (kind_in nu kind) ks) =
-        subst (λ (h : Held). (kind : CellKind) (nu : Naming) → slice_get (kinds_of h.now) c.args.cell ≡ Some kind → c.add_listed.new.had.items ≡ add_keys c.args.had.now.items (without_length (kind_in nu kind) (keys_of (props_at h.now c.args.cell))))
-        c.touch_keys.ensures.cells c.in_ok-add_listed.ensures in
+    subst (λ (h : Held). (kind : CellKind) (nu : Naming) → slice_get (kinds_of h.now) c.args.cell ≡ Some kind → c.add_listed.new.had.items ≡ add_keys c.args.had.now.items (without_length (kind_in nu kind) (keys_of (props_at h.now c.args.cell))))
+    c.touch_keys.ensures.cells c.in_ok-add_listed.ensures in
     lists_one c.args.cell old c.known.ensures.cells c.requires kind.0 kind.1 c.args.had.now.items c.add_listed.new.had.items ks c.touch_keys.new.self (λ nu. all kind.0 nu kind.1) c.touch_keys.ensures.did
