@@ -1,8 +1,8 @@
-pub mod Branches
 pub mod Joins
 pub mod Machines
 pub mod Marks
+pub mod Notes
 pub mod Prints
 pub mod Rules
-pub mod Scopes
+pub mod Scoping
 pub mod Starts

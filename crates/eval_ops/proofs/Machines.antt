@@ -1,5 +1,7 @@
 -- A machine after one of its parts changed.
 use Rattle.std.proofs.Common.{◌≡◌, refl, ap, sym, ◌∙◌, subst, ℕ, ◌<◌, ◌≤◌, List, [], ◌∷◌, ◌++◌, length, take, Some, slice_get, arith}
+use Rattle.std.specs.Prelude.{Result, Ok, Err}
+use Rattle.std.specs.Result.{IsErrAnd}
 use Rattle.std.proofs.lemmas.Option.{slice_get_within}
 use Rattle.turk_base.specs.Names.{path_in}
 use Rattle.turk_base.specs.State.{St, charge}
@@ -7,7 +9,8 @@ use Rattle.turk_base.specs.Prog.{Prim, AnswerOf, Pay}
 use Rattle.turk_base.specs.Steps.{Small, give, step, steps_of}
 use Rattle.value_cells.specs.Needs.{all_needs}
 use Rattle.value_cells.specs.Seen.{Naming, Seen, Fits}
-use Rattle.value_cells.specs.Does.{Told, Fails, Stays, Does}
+use Rattle.value_cells.specs.declared.OpStop.{OpStop}
+use Rattle.value_cells.specs.Does.{Told, Fails, told, told_stop, Stays, Does}
 use Rattle.value_cells.proofs.Turns.{grows_length}
 use Rattle.run_heap.specs.Core as core
 use Rattle.run_heap.specs.Core.{Core, names_in, Rests}
@@ -143,3 +146,15 @@ module _ (m m' : Run) (s : SameAround m m') (path : m'.heap.place.path ≡ m.hea
 -- after want of memory nothing is known but what stays
 pub does_fail : (p : Naming → Prim) (s t : Seen) → Stays s t → Does p (λ nu. Fails) s t
 does_fail p s t h = record { stays = h; did = λ nu f. tt }
+
+-- nothing that is seen changed, and the room is no less
+pub same_machine : (m m' : Run) (n n' : ℕ) → m' ≡ m → n ≤ n' → IsRun m → HasRoom m n → IsRun m' × HasRoom m' n'
+same_machine m m' n n' e l k r = (subst IsRun (sym e) k, subst (λ (m : Run). HasRoom m n') (sym e) (record {
+  kept = λ i o f. let h = r.kept i o f in omega (arith, h, l);
+  now = λ p f. let h = r.now p f in omega (arith, h, l);
+}))
+
+-- a request that ended the run, at an exit
+pub does_exit : {B : Type 0} (p : Naming → Prim) (f : (nu : Naming) → B → AnswerOf (p nu)) (r : Result B OpStop) (x : OpStop) (s t : Seen) → IsErrAnd r (λ e. e ≡ x) → Does p (λ nu. told_stop x) s t → Does p (λ nu. told (f nu) r) s t
+does_exit p f (Ok b) x s t h y = absurd h
+does_exit p f (Err e) x s t h y = subst (λ e. Does p (λ nu. told_stop e) s t) (sym h) y

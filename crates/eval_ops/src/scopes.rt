@@ -51,6 +51,7 @@ impl Machine {
         ensures entered { IfOk result (λ e. e ≡ length (seen_of self.new).outer) }
         ensures err { IfErr result (λ e. e ≡ OpStop.Memory) }
     {
+        self.heap.known();
         if self.outer.reserve(1).is_err() {
             return Err(OpStop::Memory);
         }
@@ -79,6 +80,7 @@ impl Machine {
         ensures left { LeavesBack (seen_of self.old) (seen_of self.new) }
         ensures noted { self.new.left_back ≡ Some self.old.heap.place.path }
     {
+        self.heap.known();
         let left = self.heap.leave_back(entered.opened);
         let Some(around) = self.outer.pop() else {
             unreachable!()
@@ -96,6 +98,7 @@ impl Machine {
         requires open { 0 < length (seen_of self.old).outer }
         ensures { LeavesKeep (seen_of self.old) (seen_of self.new) }
     {
+        self.heap.known();
         self.heap.leave_keep(entered.opened);
         let Some(around) = self.outer.pop() else {
             unreachable!()

@@ -1,6 +1,7 @@
 -- Data put, from the steps that the code did.
 use Rattle.std.proofs.Common.{◌≡◌, refl, ap, sym, ◌∙◌, subst, ℕ, zero, suc, ◌+◌, ◌<◌, ◌≤◌, max, List, [], ◌∷◌, length, Some, slice_get, get_or, drop, arith, decimal}
 use Rattle.std.specs.Prelude.{Result, Ok, Err}
+use Rattle.std.specs.Result.{IsErrAnd}
 use Rattle.std.proofs.lemmas.Option.{slice_get_read}
 use Rattle.turk_base.specs.Names.{Name}
 use Rattle.turk_base.specs.Values as model
@@ -12,13 +13,20 @@ use Rattle.turk_base.specs.Steps.{Small, give, step, bind, pays, element, fill, 
 use Rattle.value_cells.specs.declared.Value.{Value}
 use Rattle.value_cells.specs.declared.Value.TheVariants.{Object}
 use Rattle.value_cells.specs.declared.OpStop.{OpStop}
+use Rattle.value_cells.specs.declared.OpStop.TheVariants.{Memory}
 use Rattle.value_cells.specs.Seen.{Naming, val_in}
-use Rattle.value_cells.specs.Does.{Told, Says, told, told_stop}
+use Rattle.value_cells.specs.Does.{Told, Says, Fails, told, told_stop}
 use Rattle.run_heap.specs.Core.{Core}
 use Rattle.run_heap.specs.Works.{Works}
 use Rattle.run_heap.proofs.Turn.{works_then, works_out, works_give}
 use Rattle.run_heap.proofs.Index_keys.{drop_next, no_more}
 use Rattle.run_data.specs.Short.{many, IsShort, AreItemsShort, AreFieldsShort}
+
+-- ---- want of memory at an exit
+
+pub failed : {A B : Type 0} (g : Naming → Small A) (f : Naming → B → A) (r : Result B OpStop) (s t : Core) → IsErrAnd r (λ e. e ≡ Memory) → Works g (λ nu. Fails) s t → Works g (λ nu. told (f nu) r) s t
+failed g f (Ok b) s t h x = absurd h
+failed g f (Err e) s t h x = subst (λ e. Works g (λ nu. told_stop e) s t) (sym h) x
 
 -- ---- an element
 

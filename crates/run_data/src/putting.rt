@@ -1,8 +1,8 @@
 //! Data put: new cells of the scope that runs.
 ghost use Rattle.std.specs.Prelude.{◌≡◌, ◌<◌, ◌≤◌, IfOk, length, false};
-ghost use Rattle.turk_base.specs.Data.{nesting, nesting_items, nesting_fields, items_of, fields_of};
+ghost use Rattle.turk_base.specs.Data.{DList, DFields, nesting, nesting_items, nesting_fields, items_of, fields_of};
 ghost use Rattle.turk_base.specs.Node.{data_of, HasDistinctKeys};
-ghost use Rattle.turk_base.specs.Steps.{element, give, put_data as puts, put_items as puts_items, put_fields as puts_fields};
+ghost use Rattle.turk_base.specs.Steps.{element, give, pays, put_data as puts, put_items as puts_items, put_fields as puts_fields};
 ghost use Rattle.value_cells.specs.Needs.{needs};
 ghost use Rattle.value_cells.specs.Seen.{val_in};
 ghost use Rattle.value_cells.specs.Does.{told};
@@ -35,6 +35,18 @@ fn put_element(
     heap.set_free(cell, &key, value)?;
     heap.known();
     heap.grow(cell, index)
+}
+
+// a primitive, which is paid
+fn paid(heap: &mut RunHeap, units: u64, value: Value) -> Result<Value, OpStop>
+    requires { needs value ≤ count heap.old }
+    ensures did { Works (λ nu. pays units (give (val_in nu value))) (λ nu. told (val_in nu) result) heap.old heap.new }
+    ensures rests { Rests heap.old heap.new }
+    ensures more { count heap.old ≤ count heap.new }
+    ensures exists { IfOk result (λ v. needs v ≤ count heap.new) }
+{
+    heap.pay(units)?;
+    Ok(value)
 }
 
 // a list's items put into a new array
@@ -79,12 +91,53 @@ fn put_fields(
     ensures more { count heap.old ≤ count heap.new }
     ensures exists { IfOk result (λ v. needs v ≤ count heap.new) }
 {
-    for place in 0..fields.len() {
-        heap.pay(fields[place].0.len() as u64 + 1)?;
-        let value = put_node(alloc, heap, fields[place].1.node(), left)?;
-        heap.set_free(cell, &fields[place].0, value)?;
+    for field in fields {
+        heap.pay(field.0.len() as u64 + 1)?;
+        let value = put_node(alloc, heap, field.1.node(), left)?;
+        heap.set_free(cell, &field.0, value)?;
     }
     Ok(Value::Object(cell))
+}
+
+// a list put: a new array
+#[cycle(putting)]
+fn put_list(
+    alloc: Global,
+    heap: &mut RunHeap,
+    items: &[Data],
+    left: u32,
+) -> Result<Value, OpStop>
+    requires few { length items.now ≤ 1000000 }
+    requires short { AreItemsShort (items_of items.now) }
+    requires deep { nesting_items (items_of items.now) < left }
+    ensures did { Works (λ nu. puts (DList (items_of items.now))) (λ nu. told (val_in nu) result) heap.old heap.new }
+    ensures rests { Rests heap.old heap.new }
+    ensures more { count heap.old ≤ count heap.new }
+    ensures exists { IfOk result (λ v. needs v ≤ count heap.new) }
+{
+    heap.pay(1)?;
+    let cell = heap.add(CellKind::Array)?;
+    put_items(alloc, heap, cell, items, left - 1)
+}
+
+// fields put: a new plain cell
+#[cycle(putting)]
+fn put_plain(
+    alloc: Global,
+    heap: &mut RunHeap,
+    fields: &[(Units, Data)],
+    left: u32,
+) -> Result<Value, OpStop>
+    requires short { AreFieldsShort (fields_of fields.now) }
+    requires deep { nesting_fields (fields_of fields.now) < left }
+    ensures did { Works (λ nu. puts (DFields (fields_of fields.now))) (λ nu. told (val_in nu) result) heap.old heap.new }
+    ensures rests { Rests heap.old heap.new }
+    ensures more { count heap.old ≤ count heap.new }
+    ensures exists { IfOk result (λ v. needs v ≤ count heap.new) }
+{
+    heap.pay(1)?;
+    let cell = heap.add(CellKind::Plain(None))?;
+    put_fields(alloc, heap, cell, fields, left - 1)
 }
 
 // data of one node put; `left` is a bound on its nesting
@@ -103,37 +156,16 @@ fn put_node(
     ensures exists { IfOk result (λ v. needs v ≤ count heap.new) }
 {
     match node {
-        Node::Undefined => {
-            heap.pay(1)?;
-            Ok(Value::Undefined)
-        }
-        Node::Null => {
-            heap.pay(1)?;
-            Ok(Value::Null)
-        }
-        Node::Truth(truth) => {
-            heap.pay(1)?;
-            Ok(Value::Truth(*truth))
-        }
-        Node::Number(number) => {
-            heap.pay(1)?;
-            Ok(Value::Number(*number))
-        }
+        Node::Undefined => paid(heap, 1, Value::Undefined),
+        Node::Null => paid(heap, 1, Value::Null),
+        Node::Truth(truth) => paid(heap, 1, Value::Truth(*truth)),
+        Node::Number(number) => paid(heap, 1, Value::Number(*number)),
         Node::Text(text) => {
-            heap.pay(text.len() as u64 + 1)?;
-            let text = text.copy(alloc)?;
-            Ok(Value::Text(text))
+            let copy = text.copy(alloc)?;
+            paid(heap, text.len() as u64 + 1, Value::Text(copy))
         }
-        Node::List(items) => {
-            heap.pay(1)?;
-            let cell = heap.add(CellKind::Array)?;
-            put_items(alloc, heap, cell, items, left - 1)
-        }
-        Node::Fields(fields) => {
-            heap.pay(1)?;
-            let cell = heap.add(CellKind::Plain(None))?;
-            put_fields(alloc, heap, cell, fields, left - 1)
-        }
+        Node::List(items) => put_list(alloc, heap, items, left),
+        Node::Fields(fields) => put_plain(alloc, heap, fields, left),
     }
 }
 

@@ -193,6 +193,9 @@ module _ (m : Run) (k : IsRun m) (core : IsCore m.heap) (h : Core) (p : List ℕ
           j r (ap (λ l. slice_get l j) (sym outer) ∙ b) l;
     }
 
+no_some : {A : Type 0} {x : A} → None ≡ Some x → ⊥
+no_some e = cc
+
 -- ---- left
 
 -- The newest scope is left: the scopes around are those before it.
@@ -234,6 +237,10 @@ module _ (m : Run) (k : IsRun m) (core : IsCore m.heap) (m' : Run) (o : Outer) (
   last_place : slice_get m.heap.outer n' ≡ Some m'.heap.place
   unfolding n' places_left
   last_place = ap (slice_get m.heap.outer) (sym places_left) ∙ at_last m.heap.outer m'.heap.outer m'.heap.place h.places
+
+  slot_mark_at : slice_get m.heap.slots.marks n' ≡ Some h.slots.0
+  unfolding n' slots_left
+  slot_mark_at = ap (slice_get m.heap.slots.marks) (sym slots_left) ∙ at_last m.heap.slots.marks m'.heap.slots.marks h.slots.0 h.slots.1
 
   less : (i : ℕ) (q : Outer) → i < n' → slice_get m.outer i ≡ Some q → (q.printed ≤ o.printed) × (q.absent ≤ o.absent)
   unfolding n' last_outer
@@ -289,13 +296,9 @@ module _ (m : Run) (k : IsRun m) (core : IsCore m.heap) (m' : Run) (o : Outer) (
 
   module _ (c : (saved : List Cell) × (slice_get m.heap.cells.marks n' ≡ Some saved)) (now : m'.heap.cells.now ≡ m.heap.cells.now) (current : m'.heap.slots.current ≡ m.heap.slots.current) (text : m'.text ≡ m.text) (gone : m'.gone ≡ m.gone)
       (left : m'.heap.left ≡ m.heap.left) where
-    slot_mark : (q : Kept) × (slice_get m.heap.slots.marks n' ≡ Some q)
-    unfolding n' slots_left
-    slot_mark = (h.slots.0, ap (slice_get m.heap.slots.marks) (sym slots_left) ∙ at_last m.heap.slots.marks m'.heap.slots.marks h.slots.0 h.slots.1)
-
     -- of the scope that was left stays what stands apart from its count of calls and cells and its values
     first_keep : (nu : Naming) → (seen_of m').first nu ≡ leave (marked m n' nu) ((seen_of m).first nu)
-    unfolding n' last_outer last_place slot_mark
+    unfolding n' last_outer last_place slot_mark_at
     first_keep nu =
         (λ x. record {
           calls = m'.heap.place.calls;
@@ -308,7 +311,7 @@ module _ (m : Run) (k : IsRun m) (core : IsCore m.heap) (m' : Run) (o : Outer) (
           verdict = (named nu (h.keys x) (current x)).verdict;
           gone = map path_in (reverse (gone x));
         })
-        ∙ sym (λ x. leave (first_at (c.1 x) (slot_mark.1 x) (last_place x) (last_outer x) m.heap.slots.keys m.text m.gone nu) ((seen_of m).first nu))
+        ∙ sym (λ x. leave (first_at (c.1 x) (slot_mark_at x) (last_place x) (last_outer x) m.heap.slots.keys m.text m.gone nu) ((seen_of m).first nu))
 
     pub leaves_keep : LeavesKeep (seen_of m) (seen_of m')
     unfolding around_left back_left first_keep
@@ -370,3 +373,70 @@ module _ (m : Run) (k : IsRun m) (core : IsCore m.heap) (m' : Run) (o : Outer) (
   pub gone_short : m'.gone ≡ take o.absent m.gone → length m'.gone ≤ o.absent
   unfolding n' last_outer
   gone_short e = let z = take_long o.absent m.gone (k.absent n' o last_outer) in omega (arith, ap length e, z)
+
+-- ---- from what the heap did
+
+-- left and taken back
+module _ (m m' : Run) (k : IsRun m) (core : IsCore m.heap) (o : Outer) (b : heap.LeavesBack m.heap m'.heap) (outer : m.outer ≡ m'.outer ++ o ∷ []) (body : m'.body ≡ o.body) (values : m'.values ≡ o.values.items)
+    (text : m'.text ≡ take o.printed m.text) (gone : m'.gone ≡ take o.absent m.gone) where
+  back_is_left : Left m m' o
+  back_is_left = record {
+    outer = outer;
+    places = b.outer;
+    keys = b.keys;
+    cells = (m'.heap.cells.now, b.cells);
+    slots = (m'.heap.slots.current, b.slots);
+    body = body;
+    values = values;
+    fronts = λ q x y. record {
+      printed = ap (take q.printed) text ∙ take_twice q.printed o.printed m.text x;
+      absent = ap (take q.absent) gone ∙ take_twice q.absent o.absent m.gone y;
+    };
+  }
+
+  last_mark : slice_get m.heap.cells.marks (length m'.outer) ≡ Some m'.heap.cells.now
+  unfolding back_is_left cell_mark n'
+  last_mark = cell_mark m k core m' o back_is_left
+
+  last_kept : slice_get m.heap.slots.marks (length m'.outer) ≡ Some m'.heap.slots.current
+  unfolding back_is_left slot_mark_at n'
+  last_kept = slot_mark_at m k core m' o back_is_left
+
+  pub goes_back : LeavesBack (seen_of m) (seen_of m')
+  unfolding back_is_left last_mark last_kept n'
+  goes_back = leaves_back m k core m' o back_is_left last_mark last_kept text gone b.left (core.marked.first (length m'.outer) m'.heap.cells.now last_mark)
+
+  pub back_whole : IsRun m'
+  unfolding back_is_left
+  back_whole = back_run m k core m' o back_is_left refl text gone
+
+  pub back_room : (cap : ℕ) → HasRoom m cap → HasRoom m' cap
+  unfolding back_is_left
+  back_room cap r = room_left m k core m' o back_is_left cap r (λ p e. gone_short m k core m' o back_is_left gone)
+
+-- left and kept
+module _ (m m' : Run) (k : IsRun m) (core : IsCore m.heap) (o : Outer) (b : heap.LeavesKeep m.heap m'.heap) (outer : m.outer ≡ m'.outer ++ o ∷ []) (body : m'.body ≡ o.body) (values : m'.values ≡ o.values.items)
+    (text : m'.text ≡ m.text) (gone : m'.gone ≡ m.gone) (none : m'.left_back ≡ None) where
+  keep_is_left : Left m m' o
+  keep_is_left = record {
+    outer = outer;
+    places = b.outer;
+    keys = b.keys;
+    cells = b.cells;
+    slots = b.slots;
+    body = body;
+    values = values;
+    fronts = λ q x y. record { printed = ap (take q.printed) text; absent = ap (take q.absent) gone };
+  }
+
+  pub goes_keep : LeavesKeep (seen_of m) (seen_of m')
+  unfolding keep_is_left cell_mark n'
+  goes_keep = leaves_keep m k core m' o keep_is_left (b.cells.0, cell_mark m k core m' o keep_is_left) b.now b.current text gone b.left
+
+  pub keep_whole : IsRun m'
+  unfolding keep_is_left
+  keep_whole = keep_run m k core m' o keep_is_left b.now text gone
+
+  pub keep_room : (cap : ℕ) → HasRoom m cap → HasRoom m' cap
+  unfolding keep_is_left
+  keep_room cap r = room_left m k core m' o keep_is_left cap r (λ p e. let z : None ≡ Some p = sym none ∙ e in absurd (no_some z))
