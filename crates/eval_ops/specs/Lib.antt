@@ -1,3 +1,0 @@
-pub mod Calls
-pub mod Run
-pub mod Stored
