@@ -4,7 +4,7 @@ use Rattle.std.specs.Prelude.{codes}
 use Rattle.std.specs.Map.{lookup}
 use Rattle.std.proofs.lemmas.List.{map-append, length-map}
 use Rattle.std.proofs.lemmas.Option.{slice_get_within}
-use Rattle.turk_base.specs.Names.{Path, root, sub, Name, cell, home, name_eq, pick, self}
+use Rattle.turk_base.specs.Names.{Path, root, sub, Name, cell, home, name_eq, pick, Under, self, not_root}
 use Rattle.turk_base.specs.Values as model
 use Rattle.turk_base.specs.Values.{Known, Property, property}
 use Rattle.turk_base.specs.State.{St, independent}
@@ -150,6 +150,10 @@ small : (i : ℕ) (n : Name) → slice_get first_names i ≡ Some n → cell_num
 unfolding AllOf
 small = at_all (λ n. cell_number n < 7) first_names (omega arith, (omega arith, (omega arith, (omega arith, (omega arith, (omega arith, (omega arith, tt)))))))
 
+at_home : (i : ℕ) (n : Name) → slice_get first_names i ≡ Some n → home n ≡ root
+unfolding AllOf
+at_home = at_all (λ n. home n ≡ root) first_names (refl, (refl, (refl, (refl, (refl, (refl, (refl, tt)))))))
+
 number_in : Name → ℕ
 number_in (cell s n) = n
 
@@ -216,16 +220,19 @@ module _ (nu : Naming) (fits : Fits nu first_names) (whole : IsWhole first_cells
 -- the heap with these cells
 module _ (cells : Held) (slots : Slots) (now : cells.now ≡ first_cells) (cell_marks : cells.marks ≡ []) (opened : slots.current.opened ≡ []) (verdict : verdict_of slots.current.found ≡ independent) (slot_marks : slots.marks ≡ []) (left : ℕ) where
   abbrev pub script : Place
-  script = record { path = []; branch = []; made = 7 }
+  script = record { path = []; branch = []; made = 7; calls = 0 }
 
   abbrev pub begun : Core
   begun = record { cells = cells; slots = slots; place = script; outer = []; left = left }
 
   pub begins_core : IsCore begun
   begins_core = record {
-    own = record { own = λ i n e s. small i n (ap (λ l. slice_get (names_in l) i) (sym now) ∙ e) };
+    own = record {
+      own = λ i n e s. small i n (ap (λ l. slice_get (names_in l) i) (sym now) ∙ e);
+      below = λ i m n e u. absurd (not_root (subst (λ p. Under (sub m root) p) (at_home i n (ap (λ l. slice_get (names_in l) i) (sym now) ∙ e)) u));
+    };
     others = λ i o e. cc;
-    nested = record { shorter = λ i o e. cc; apart = λ i j o p l e f. cc; branches = λ i o e. cc; here = self };
+    nested = record { shorter = λ i o e. cc; apart = λ i j o p l e f. cc; inside = λ i m o e u. cc; between = λ i j m o p l e f u. cc; branches = λ i o e. cc; here = self };
     marked = record {
       first = λ i a e. let q : slice_get [] i ≡ Some a = ap (λ l. slice_get l i) (sym cell_marks) ∙ e in cc;
       before = λ i j a b l e f. let q : slice_get [] i ≡ Some a = ap (λ l. slice_get l i) (sym cell_marks) ∙ e in cc;
@@ -252,6 +259,7 @@ module _ (cells : Held) (slots : Slots) (now : cells.now ≡ first_cells) (cell_
         λ x. record { calls = 0; cells = 7; vals = []; known = known x; props = props x; text = []; opened = o x; verdict = v x; gone = [] };
     path = refl;
     branch = refl;
+    calls = refl;
     outer = refl;
     left = refl;
   }

@@ -2,13 +2,17 @@ pub mod Accesses_facts
 pub mod Acts
 pub mod Beginnings
 pub mod Chains
+pub mod Free
 pub mod Index_keys
 pub mod Keys
+pub mod Listed
 pub mod Look
 pub mod Made
 pub mod Putting
+pub mod Scoping
 pub mod Shorter
 pub mod Tables
 pub mod Turn
+pub mod Verdicts
 pub mod Watches
 pub mod Whole

@@ -2,7 +2,7 @@
 use Rattle.std.proofs.Common.{◌≡◌, refl, ap, sym, ◌∙◌, subst, ℕ, zero, suc, ◌+◌, ◌-◌, ◌<◌, ◌≤◌, nat_lt, Bool, true, false, List, [], ◌∷◌, ◌++◌, length, Option, Some, None, slice_get, map, arith, length-append}
 use Rattle.std.proofs.lemmas.List.{map-append, length-map}
 use Rattle.std.proofs.lemmas.Option.{slice_get_within}
-use Rattle.turk_base.specs.Names.{Path, path_in, Name, cell, home, pick, name_eq, Under, self}
+use Rattle.turk_base.specs.Names.{Path, sub, path_in, Name, cell, home, pick, name_eq, Under, self}
 use Rattle.turk_base.specs.Values as model
 use Rattle.turk_base.specs.Values.{Val, Known, Kind, Property, property}
 use Rattle.turk_base.specs.State.{St, make, Act, gives, act, act_make, act_chained, make_cell, first_props, op_cost, if_paid, with_props}
@@ -41,6 +41,7 @@ use Rattle.turk_base.specs.Steps.{steps_of}
 use Rattle.turk_base.specs.Prog.{Make}
 use Rattle.run_heap.specs.Whole.{IsCore}
 use Rattle.run_heap.proofs.Tables.{path_apart, name_at}
+use Rattle.run_heap.proofs.Scoping.{no_loop}
 use Rattle.run_heap.proofs.Turn.{works_spends, works_fails, keeps_same}
 use Rattle.run_heap.proofs.Acts.{step_goes, step_spends, made_same}
 
@@ -214,11 +215,17 @@ module _ (c : Cell) (old new : Core) (whole : IsWhole old.cells.now) (h : Adds c
   pub add_core : IsCore old → (cells : new.cells.marks ≡ old.cells.marks) → new.outer ≡ old.outer → IsCore new
   add_core k marks outer = record {
     own = record {
+      below = λ i m n e u. pushed (λ i n. Under (sub m (path_in new.place.path)) (home n) → m < new.place.calls) (names_in old.cells.now) (name_in c.name)
+          (λ i n e u. let b = k.own.below i m n e (subst (λ p. Under (sub m (path_in p)) (home n)) h.path u) in omega (arith, b, h.calls))
+          (λ u. absurd (no_loop (subst (λ p. Under (sub m (path_in p)) (path_in old.place.path)) h.path (subst (λ p. Under (sub m (path_in new.place.path)) p) (ap home name_is) u)))) i n (ap (λ l. slice_get l i) (sym names_push) ∙ e) u;
       own = λ i n e s. pushed (λ i n. home n ≡ path_in new.place.path → cell_number n < new.place.made) (names_in old.cells.now) (name_in c.name)
           (λ i n e s. let o = k.own.own i n e (s ∙ ap path_in h.path) in omega (arith, o, h.made))
           (λ s. omega (arith, h.number, h.made)) i n (ap (λ l. slice_get l i) (sym names_push) ∙ e) s;
     };
     others = λ j o g. record {
+      below = λ i m n e u. pushed (λ i n. Under (sub m (path_in o.path)) (home n) → m < o.calls) (names_in old.cells.now) (name_in c.name)
+          (λ i n e u. (k.others j o (ap (λ l. slice_get l j) (sym outer) ∙ g)).below i m n e u)
+          (λ u. k.nested.inside j m o (ap (λ l. slice_get l j) (sym outer) ∙ g) (subst (λ p. Under (sub m (path_in o.path)) p) (ap home name_is) u)) i n (ap (λ l. slice_get l i) (sym names_push) ∙ e) u;
       own = λ i n e s. pushed (λ i n. home n ≡ path_in o.path → cell_number n < o.made) (names_in old.cells.now) (name_in c.name)
           (λ i n e s. (k.others j o (ap (λ l. slice_get l j) (sym outer) ∙ g)).own i n e s)
           (λ s. absurd (let q = path_apart o.path old.place.path (sym s ∙ ap home name_is) in let t = k.nested.shorter j o (ap (λ l. slice_get l j) (sym outer) ∙ g) in omega (arith, t, ap length q))) i n (ap (λ l. slice_get l i) (sym names_push) ∙ e) s;
@@ -226,6 +233,8 @@ module _ (c : Cell) (old new : Core) (whole : IsWhole old.cells.now) (h : Adds c
     nested = record {
       shorter = λ i o e. subst (λ p. length o.path < length p) (sym h.path) (k.nested.shorter i o (ap (λ l. slice_get l i) (sym outer) ∙ e));
       apart = λ i j o p l e f. k.nested.apart i j o p l (ap (λ l. slice_get l i) (sym outer) ∙ e) (ap (λ l. slice_get l j) (sym outer) ∙ f);
+      inside = λ i m o e u. k.nested.inside i m o (ap (λ l. slice_get l i) (sym outer) ∙ e) (subst (λ p. Under (sub m (path_in o.path)) (path_in p)) h.path u);
+      between = λ i j m o p l e f. k.nested.between i j m o p l (ap (λ l. slice_get l i) (sym outer) ∙ e) (ap (λ l. slice_get l j) (sym outer) ∙ f);
       branches = λ i o e. k.nested.branches i o (ap (λ l. slice_get l i) (sym outer) ∙ e);
       here = subst (λ b. Under (path_in b) (path_in new.place.path)) (sym h.branch) (subst (λ p. Under (path_in old.place.branch) (path_in p)) (sym h.path) k.nested.here);
     };
@@ -305,6 +314,7 @@ array_adds number old mid new a e = record {
     made = ap (λ (s : Core). s.place.made) e ∙ a.adds.made;
     path = ap (λ (s : Core). s.place.path) e ∙ a.adds.path;
     branch = ap (λ (s : Core). s.place.branch) e ∙ a.adds.branch;
+    calls = ap (λ (s : Core). s.place.calls) e ∙ a.adds.calls;
     left = ap (λ (s : Core). s.left) e ∙ a.adds.left;
     scope = a.adds.scope;
     number = a.adds.number;

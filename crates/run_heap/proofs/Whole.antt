@@ -36,8 +36,9 @@ rests_then s t u x y = record {
   };
   path = y.path ∙ x.path;
   branch = y.branch ∙ x.branch;
+  calls = y.calls ∙ x.calls;
   outer = y.outer ∙ x.outer;
 }
 
 pub rests_same : (c : Core) → Rests c c
-rests_same c = record { cells = refl; slots = record { marks = refl; meaning = λ nu i k e. refl }; path = refl; branch = refl; outer = refl }
+rests_same c = record { cells = refl; slots = record { marks = refl; meaning = λ nu i k e. refl }; path = refl; branch = refl; calls = refl; outer = refl }

@@ -40,5 +40,6 @@ pub record Begins (fuel : ℕ) (h : Core) : Type 0 where
   pub first : (nu : Naming) → Fits nu first_names → placed nu h start ≡ start
   pub path : h.place.path ≡ []
   pub branch : h.place.branch ≡ []
+  pub calls : h.place.calls ≡ 0
   pub outer : h.outer ≡ []
   pub left : h.left ≡ fuel

@@ -27,4 +27,5 @@ pub record Rests (old new : Core) : Type 0 where
   pub slots : KeepsMarks old.slots new.slots
   pub path : new.place.path ≡ old.place.path
   pub branch : new.place.branch ≡ old.place.branch
+  pub calls : new.place.calls ≡ old.place.calls
   pub outer : new.outer ≡ old.outer

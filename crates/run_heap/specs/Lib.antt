@@ -1,9 +1,12 @@
 pub mod Begins
 pub mod Core
 pub mod Lengths
+pub mod Listing
 pub mod Making
 pub mod Placed
+pub mod Scopes
 pub mod Stays
 pub mod Stored
+pub mod Watching
 pub mod Whole
 pub mod Works

@@ -14,6 +14,7 @@ pub record Adds (c : Cell) (old new : Core) : Type 0 where
   pub made : new.place.made ≡ suc old.place.made
   pub path : new.place.path ≡ old.place.path
   pub branch : new.place.branch ≡ old.place.branch
+  pub calls : new.place.calls ≡ old.place.calls
   pub left : new.left ≡ old.left
   pub scope : c.name.scope ≡ old.place.path
   pub number : c.name.number ≡ old.place.made

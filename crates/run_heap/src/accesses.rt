@@ -62,8 +62,8 @@ fn stays(kind: CellKind, key: &Units) -> bool
 }
 
 impl RunHeap {
-    // the prototype of a cell, where it has one
-    fn above(&self, cell: u32) -> Option<u32>
+    /// The prototype of a cell, where it has one: a cell that was made before it.
+    pub fn above(&self, cell: u32) -> Option<u32>
         requires { cell < count self.now }
         ensures chain { MatchOption result (chain_of (kinds_of self.now.cells.now) cell ≡ []) (λ p. chain_of (kinds_of self.now.cells.now) cell ≡ p ∷ chain_of (kinds_of self.now.cells.now) p) }
         ensures older { IfSome result (λ p. p < cell) }
@@ -132,6 +132,7 @@ impl RunHeap {
         requires there { IsSome (own self.old.cells.now frame name.now) }
         ensures did { Works (λ nu. steps_of (ReadName (nu frame) name.now)) (λ nu. told (val_in nu) result) self.old self.new }
         ensures rests { Rests self.old self.new }
+        ensures cells { self.new.cells ≡ self.old.cells }
         ensures exists { IfOk result (λ v. needs v ≤ count self.new) }
     {
         match self.look(frame, name)? {

@@ -127,6 +127,7 @@ impl RunHeap {
                 path: Path::new(alloc),
                 branch: Path::new(alloc),
                 made: 7,
+                calls: 0,
             },
             outer: Vec::new(alloc),
             left: fuel,

@@ -1,27 +1,35 @@
 //! The heap of a run: cells by numbers, with the touches and the charges of each access.
 #![tactic(auto)]
 
+use branch_check::MonitorMark;
 use slot_watch::SlotWatch;
 use std::alloc::Global;
 use std::marker::Model;
 use turk_base::Path;
-use value_cells::Cells;
+use value_cells::{Cells, Mark};
 
 mod accesses;
 mod begin;
 mod classes;
+mod listing;
 mod making;
 mod puts;
+mod scopes;
 mod steps;
 mod trims;
+mod watching;
 
-/// The scope that runs or one around it: its path, the branch that holds it, and how many cells
-/// were made in it.
+pub use accesses::{is_length, length_text};
+pub use classes::{KeyClass, class};
+
+/// The scope that runs or one around it: its path, the branch that holds it, how many cells were
+/// made in it, and how many of its calls took an index.
 #[derive(Drop)]
 pub struct Place {
     pub path: Path,
     pub branch: Path,
     pub made: u64,
+    pub calls: u32,
 }
 
 /// Cells with their properties, the watch over their slots, the scopes that are open, and the fuel
@@ -52,16 +60,20 @@ impl Model for RunHeap {
     ghost invariant = { IsKept };
 }
 
-/// An open scope of a RunHeap. Contracts see how many scopes were around it.
+/// An open scope of a RunHeap: the marks of its cells and of its slots. Contracts see how many
+/// scopes were around it.
 #[derive(Drop)]
 pub struct Opened {
-    depth: usize,
+    cells: Mark,
+    slots: MonitorMark,
 }
 
 impl Model for Opened {
-    ghost use Rattle.std.specs.Prelude.{ℕ};
+    ghost use Rattle.std.specs.Prelude.{ℕ, ◌≡◌};
 
     ghost Value = { ℕ };
 
-    ghost view = { λ o. o.depth };
+    ghost view = { λ o. o.cells };
+
+    ghost invariant = { λ o. o.cells ≡ o.slots };
 }

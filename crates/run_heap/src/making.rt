@@ -64,6 +64,7 @@ impl RunHeap {
         ensures did { Works (λ nu. step (make_cell false (kind_in nu kind)) give) (λ nu. told nu result) self.old self.new }
         ensures rests { Rests self.old self.new }
         ensures more { count self.old ≤ count self.new }
+        ensures place { IfOk result (λ cell. cell ≡ count self.old) }
         ensures number { IfOk result (λ cell. cell < count self.new) }
     {
         self.known();
@@ -92,6 +93,7 @@ impl RunHeap {
         ensures did { Works (λ nu. step (make_cell false (kind_in nu Array)) give) (λ nu. told nu result) self.old self.new }
         ensures rests { Rests self.old self.new }
         ensures more { count self.old ≤ count self.new }
+        ensures place { IfOk result (λ cell. cell ≡ count self.old) }
         ensures number { IfOk result (λ cell. cell < count self.new) }
     {
         self.known();
@@ -106,6 +108,7 @@ impl RunHeap {
         ensures did { Works (λ nu. step (make_cell false (kind_in nu kind)) give) (λ nu. told nu result) self.old self.new }
         ensures rests { Rests self.old self.new }
         ensures more { count self.old ≤ count self.new }
+        ensures place { IfOk result (λ cell. cell ≡ count self.old) }
         ensures number { IfOk result (λ cell. cell < count self.new) }
     {
         match kind {
@@ -124,6 +127,7 @@ impl RunHeap {
         ensures did { Works (λ nu. steps_of (Make (kind_in nu kind))) (λ nu. told nu result) self.old self.new }
         ensures rests { Rests self.old self.new }
         ensures more { count self.old ≤ count self.new }
+        ensures place { IfOk result (λ cell. cell ≡ count self.old) }
         ensures number { IfOk result (λ cell. cell < count self.new) }
     {
         self.pay(1)?;

@@ -42,8 +42,8 @@ impl RunHeap {
         Ok(keys)
     }
 
-    // does nothing, and tells that a cell's keys are distinct
-    fn keys_differ(&self, cell: u32)
+    /// Does nothing, and tells that a cell's keys are distinct.
+    pub fn keys_differ(&self, cell: u32)
         requires { cell < count self.now }
         ensures { IsDistinct key_eq (keys_of (props_at self.now.cells.now cell)) }
     {

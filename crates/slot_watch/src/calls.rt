@@ -1,9 +1,9 @@
 //! The calls of SlotWatch.
-ghost use Rattle.std.specs.Prelude.{◌≡◌, ◌<◌, [], ◌∷◌, ◌++◌, ℕ, length, IfOk, OnOk, OnErr, IfSome};
+ghost use Rattle.std.specs.Prelude.{◌≡◌, ◌<◌, [], ◌∷◌, ◌++◌, ℕ, length, IfOk, OnOk, OnErr, IfSome, IfNone};
 ghost use Rattle.turk_base.specs.Names.{path_in, shape, at, slot};
 ghost use Rattle.turk_base.specs.State.{independent};
 ghost use Rattle.branch_check.specs.Watch.{Kept, verdict_of, after_touch, after_once, after_write, after_join, after_throw};
-ghost use Rattle.slot_watch.specs.Keys.{HasNumber};
+ghost use Rattle.slot_watch.specs.Keys.{HasNumber, part_in};
 ghost use Rattle.slot_watch.specs.Within.{CellsWithin};
 ghost use Rattle.slot_watch.specs.Slots.{Turns, KeepsMarks};
 
@@ -163,7 +163,8 @@ impl SlotWatch {
 
     /// The key of a number, None where no key has it.
     pub fn key(&self, number: u32) -> Option<&Units>
-        ensures { IfSome result (λ k. HasNumber self.now.keys k.now number) }
+        ensures key { IfSome result (λ k. HasNumber self.now.keys k.now number) }
+        ensures none { IfNone result (part_in self.now.keys number ≡ shape) }
     {
         self.keys.key(number)
     }

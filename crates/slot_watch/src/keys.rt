@@ -1,6 +1,7 @@
 //! Keys by numbers.
-ghost use Rattle.std.specs.Prelude.{◌≡◌, ◌+◌, [], IfOk, OnErr, IfSome};
-ghost use Rattle.slot_watch.specs.Keys.{Numbers, HasNumber, HasNone, AreDistinct, Grows};
+ghost use Rattle.std.specs.Prelude.{◌≡◌, ◌+◌, [], IfOk, OnErr, IfSome, IfNone};
+ghost use Rattle.turk_base.specs.Names.{shape};
+ghost use Rattle.slot_watch.specs.Keys.{Numbers, part_in, HasNumber, HasNone, AreDistinct, Grows};
 
 use object_props::Props;
 use std::alloc::Global;
@@ -57,7 +58,8 @@ impl KeyTable {
 
     /// The key of a number, or None exactly for 0 and past the last.
     pub fn key(&self, number: u32) -> Option<&Units>
-        ensures { IfSome result (λ k. HasNumber self.now k.now number) }
+        ensures key { IfSome result (λ k. HasNumber self.now k.now number) }
+        ensures none { IfNone result (part_in self.now number ≡ shape) }
     {
         if number == 0 {
             return None;

@@ -17,7 +17,7 @@ pub invariant_of-self : goal.invariant_of-self
 invariant_of-self c =
     let a = c.self.inside in
     let cell : Cell = record { name = c.in-Ok.name; kind = c.args.kind; props = [] } in
-    let new : Core = record { cells = c.make.new.self; slots = a.slots; place = record { path = a.place.path; branch = a.place.branch; made = a.place.made + 1 }; outer = a.outer.items; left = a.left } in
+    let new : Core = record { cells = c.make.new.self; slots = a.slots; place = record { path = a.place.path; branch = a.place.branch; made = a.place.made + 1; calls = a.place.calls }; outer = a.outer.items; left = a.left } in
     add_core cell (core_of a) new c.known.ensures
     (record {
       cells = c.in-Ok-make.ensures.ok;
@@ -25,6 +25,7 @@ invariant_of-self c =
       made = omega arith;
       path = refl;
       branch = refl;
+      calls = refl;
       left = refl;
       scope = subst (λ (s : Core). c.in-Ok.name.scope ≡ s.place.path) (sym c.self.view_is) c.in-Ok.ensures.scope;
       number = subst (λ (s : Core). c.in-Ok.name.number ≡ s.place.made) (sym c.self.view_is) c.in-Ok.ensures.number;

@@ -1,0 +1,21 @@
+use Rattle.std.proofs.Common.{◌≡◌, refl, subst, length}
+use Rattle.turk_base.specs.Names.{path_in}
+use Rattle.branch_check.specs.Watch.{after_throw}
+use Rattle.run_heap.specs.Core.{Core}
+use Rattle.run_heap.specs.Stored.{core_of}
+use Rattle.run_heap.specs.Watching.{Watches}
+use Rattle.run_heap.proofs.Turn.{core}
+use Rattle.run_heap.proofs.Verdicts.{watches_of}
+use Rattle.run_heap.proofs.Whole.{core_kept}
+use Rattle.run_heap.proofs.RunHeap.threw.Goals as goal
+
+pub invariant_of-self : goal.invariant_of-self
+invariant_of-self c =
+    let a = c.self.inside in
+    core_kept (core_of a) c.self.invariant a.cells c.threw.new.self a.left refl c.threw.ensures.marks.marks refl (c.threw.ensures.within (length a.cells.now) c.self.invariant.within)
+
+pub returns-in-Ok-clause-did : goal.returns-in-Ok-clause-did
+returns-in-Ok-clause-did c =
+    let a = c.self.inside in
+    subst (λ (s : Core). Watches (λ w. after_throw (path_in c.args.branch.now) w) s (core a.cells c.threw.new.self a.place a.outer.items a.left)) c.self.view_is
+    (watches_of (λ w. after_throw (path_in c.args.branch.now) w) (core_of a) c.threw.new.self c.known.ensures (c.in-Ok.ensures.now (length a.cells.now)))
