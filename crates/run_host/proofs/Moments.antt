@@ -1,0 +1,81 @@
+-- Moments one after another.
+use Rattle.std.specs.Prelude.{List, length, Some, slice_get}
+use Rattle.std.proofs.Common.{◌≡◌, ◌≤◌, ◌<◌, ℕ, refl, sym, ap, subst, ◌∙◌, arith, [], ◌∷◌, ◌++◌, ◌⊎◌, inl, inr, get_or}
+use Rattle.std.proofs.lemmas.Option.{slice_get_within, slice_get-get_or}
+use Rattle.std.proofs.lemmas.Bool.{cases_lt}
+use Rattle.turk_base.specs.Names.{Name, In, Under, home}
+use Rattle.turk_base.specs.Asks.{Rec, rec, path_of}
+use Rattle.turk_base.specs.Prog.{Prog}
+use Rattle.turk_base.specs.Values.{Outcome}
+use Rattle.js_tree.specs.World.{Draws, World, Rest}
+use Rattle.run_laws.proofs.Sequel.{Ends}
+use Rattle.run_laws.proofs.Within.{After}
+use Rattle.run_laws.proofs.Looks.{ends_counted, ends_before}
+use Rattle.run_laws.proofs.Props.{in_split}
+use Rattle.value_cells.specs.Seen.{Naming, Fits, Grows, Scope}
+use Rattle.run_host.specs.Moment.{Moment, cells, drawn_by, AllDealt, Suits, Clear, place, Same, Within}
+use native.Mathlib.Nat.{le_refl, le_trans}
+
+pub fits_before : {nu : Naming} {old new : List Name} → Grows old new → Fits nu new → Fits nu old
+fits_before g f = record { agrees = λ i n e. f.agrees i n (g i n e) }
+
+pub there : (xs : List Name) (i : ℕ) → i < length xs → (n : Name) × (slice_get xs i ≡ Some n)
+there [] i h = absurd (omega arith)
+there (x ∷ xs) i h = (get_or (x ∷ xs) i x, slice_get-get_or (x ∷ xs) i x h)
+
+some_same : {x y : Name} → Some x ≡ Some y → x ≡ y
+some_same e = cc
+
+pub same_refl : {m : Moment} → Same m m
+same_refl = record { session = refl; trace = refl; pairs = refl; grows = λ i n e. e }
+
+pub same_trans : {a b c : Moment} → Same a b → Same b c → Same a c
+same_trans h k = record { session = k.session ∙ h.session; trace = k.trace ∙ h.trace; pairs = k.pairs ∙ h.pairs; grows = λ i n e. k.grows i n (h.grows i n e) }
+
+pub within_refl : {m : Moment} → Within m m
+within_refl {m} = record {
+  scope = refl;
+  outer = refl;
+  below = λ i n e l. let h : i < length m.heap.names = slice_get_within m.heap.names i n e in absurd (omega arith);
+  falls = le_refl m.heap.left;
+}
+
+pub within_trans : {a b c : Moment} → Same b c → Within a b → Within b c → Within a c
+within_trans {a} {b} {c} g h k = record {
+  scope = k.scope ∙ h.scope;
+  outer = k.outer ∙ h.outer;
+  below = λ i n e l. new_below i n e l (cases_lt i (cells b));
+  falls = le_trans k.falls h.falls;
+}
+  where
+    new_below : (i : ℕ) (n : Name) → slice_get c.heap.names i ≡ Some n → cells a ≤ i → (i < cells b) ⊎ (cells b ≤ i) → Under a.heap.scope.path (home n)
+    new_below i n e l (inr j) = subst (λ (p : Scope). Under p.path (home n)) h.scope (k.below i n e j)
+    new_below i n e l (inl j) = let f : (m : Name) × (slice_get b.heap.names i ≡ Some m) = there b.heap.names i j in
+        let same : f.0 ≡ n = some_same (sym (g.grows i f.0 f.1) ∙ e) in
+        h.below i n (f.1 ∙ ap Some same) l
+
+dealt_front : (d : Draws) (k : ℕ) (l m : List Rec) → AllDealt d k (l ++ m) → AllDealt d k l
+dealt_front d k [] m h = tt
+dealt_front d k (rec p x ∷ l) m h = (h.0, dealt_front d (drawn_by x k) l m h.1)
+
+pub suits_before : {E : World} {old new : Moment} → Same old new → (added : List Rec) → new.made ≡ old.made ++ added → Suits E new → Suits E old
+suits_before {E} {old} {new} s added e h = record {
+  session = h.session ∙ s.session;
+  pairs = h.pairs ∙ s.pairs;
+  dealt = dealt_front E.dice 0 old.made added (subst (λ l. AllDealt E.dice 0 l) e h.dealt);
+}
+
+pub place_after : {E : World} {bound : ℕ} {old new : Moment} → Same old new → Within old new → place E bound new ≡ place E bound old
+place_after {E} {bound} {old} {new} s h = ap (λ t. record { world = E; trace = t; bound = bound; scope = new.heap.scope.path; branch = new.heap.scope.branch; body = new.heap.scope.body }) s.trace
+    ∙ ap (λ (c : Scope). record { world = E; trace = old.trace; bound = bound; scope = c.path; branch = c.branch; body = c.body }) h.scope
+
+-- What was made lies at calls that were counted.
+pub clear_after : {nu : Naming} {E : World} {bound : ℕ} {old new : Moment} {g : Prog} {o : Outcome} {w w' : Rest} {added : List Rec} →
+    Within old new → new.made ≡ old.made ++ added → Ends (place E bound old) g o (old.heap.first nu) w (new.heap.first nu) w' added → Clear nu old → Clear nu new
+clear_after {nu} {E} {bound} {old} {new} {g} {o} {w} {w'} {added} s e h c r m a = elim (in_split old.made added (subst (λ l. In Rec r l) e m)) [
+  | inl i ↦ c r i (earlier (subst (λ (p : Scope). After p.path (new.heap.first nu).calls (path_of r)) s.scope a))
+  | inr j ↦ ends_before h r j (subst (λ (p : Scope). After p.path (new.heap.first nu).calls (path_of r)) s.scope a)
+]
+  where
+    earlier : After old.heap.scope.path (new.heap.first nu).calls (path_of r) → After old.heap.scope.path (old.heap.first nu).calls (path_of r)
+    earlier (i, l, u) = (i, le_trans (ends_counted h).0 l, u)

@@ -1,0 +1,20 @@
+use Rattle.std.proofs.Common.{◌≤◌}
+use Rattle.js_tree.specs.Statements.{clauses}
+use Rattle.js_tree.specs.Rows.{expr_to, stmt_to}
+use Rattle.run_host.specs.Moment.{cells}
+use Rattle.run_host.specs.Told.{here_in}
+use Rattle.run_host.specs.Steps.{Onward}
+use Rattle.tree_rows.specs.Codes.{table_in}
+use Rattle.tree_rows.proofs.Clauses.{clauses_from}
+use Rattle.tree_rows.proofs.below.Below.clauses.Given as goal
+
+abbrev pub invariant-loop-case : goal.invariant-loop-case
+invariant-loop-case g l =
+    let table = table_in l.codes in
+    let old = g.H.Host.moment l.fn.host in
+    let now = g.H.Host.moment l.host in
+    record {
+      rest : Onward (λ nu. clauses table (expr_to table l.self.left) (stmt_to table l.self.left) (here_in nu l.here) l.cases) (clauses_from table (expr_to table l.self.left) (stmt_to table l.self.left) (λ nu. here_in nu l.here) l.cases l.case-index) old now;
+      more : cells old ≤ cells now;
+      sound : g.H.Host.is_sound l.host;
+    }

@@ -1,0 +1,27 @@
+use Rattle.std.proofs.Common.{Some}
+use Rattle.turk_base.specs.Prog.{nothing}
+use Rattle.js_tree.specs.Statements.{tested}
+use Rattle.js_tree.specs.Rows.{expr_to, stmt_to}
+use Rattle.run_host.specs.Told.{here_in}
+use Rattle.run_host.proofs.Exits.{flow_exit, first_out}
+use Rattle.tree_rows.specs.Codes.{table_in}
+use Rattle.tree_rows.proofs.Flows.{flow_on, flow_out, flow_paid}
+use Rattle.tree_rows.proofs.below.Below.do_while_turn.Goals as goal
+
+pub returns-in_err-other-clause-ran : goal.returns-in_err-other-clause-ran
+returns-in_err-other-clause-ran g c =
+    let t = table_in c.args.codes.now in
+    flow_exit _ _ c.from_residual.ensures.1 (first_out (λ nu _. tested t (expr_to t c.args.self.now.left) (stmt_to t c.args.self.now.left) (here_in nu c.args.here) (Some c.args.e.now) nothing) _ c.in_err-other.ensures.ran)
+
+pub returns-in-Normal-clause-ran : goal.returns-in-Normal-clause-ran
+returns-in-Normal-clause-ran g c =
+    let t = table_in c.args.codes.now in
+    flow_on (λ nu _. tested t (expr_to t c.args.self.now.left) (stmt_to t c.args.self.now.left) (here_in nu c.args.here) (Some c.args.e.now) nothing) _ c.in-Normal.is c.in_ok-other.ensures.ran c.again.ensures.ran
+
+pub returns-in-Normal-clause-paid : goal.returns-in-Normal-clause-paid
+returns-in-Normal-clause-paid g c = flow_paid c.again.result c.again.ensures.ran c.in_ok-other.ensures.paid
+
+pub returns-in_default-clause-ran : goal.returns-in_default-clause-ran
+returns-in_default-clause-ran g c =
+    let t = table_in c.args.codes.now in
+    flow_out (λ nu _. tested t (expr_to t c.args.self.now.left) (stmt_to t c.args.self.now.left) (here_in nu c.args.here) (Some c.args.e.now) nothing) _ c.in_default.not-Normal c.in_ok-other.ensures.ran

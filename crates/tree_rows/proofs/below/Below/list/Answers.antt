@@ -1,0 +1,30 @@
+use Rattle.std.proofs.Common.{arith}
+use Rattle.js_tree.specs.Rows.{stmt_to}
+use Rattle.run_host.specs.Told.{here_in}
+use Rattle.run_host.proofs.Sequence.{onward_same}
+use Rattle.tree_rows.specs.Codes.{table_in}
+use Rattle.run_host.proofs.Exits.{flow_exit}
+use Rattle.tree_rows.proofs.Lists.{list_next, list_ends, list_out, list_over}
+use Rattle.tree_rows.proofs.below.Below.list.Goals as goal
+
+pub loop-one-init : goal.loop-one-init
+loop-one-init g c = record { rest = onward_same; more = omega arith; sound = c.requires.sound }
+
+pub returns-in_err-other-clause-ran : goal.returns-in_err-other-clause-ran
+returns-in_err-other-clause-ran g c = let t = table_in c.args.codes.now in
+    flow_exit _ _ c.from_residual.ensures.1 (list_out t (stmt_to t c.args.self.now.left) (λ nu. here_in nu c.args.here) c.args.all.now c.loop-one.one-index c.one-item.result _ c.loop-one-test.true c.one-item.is c.loop-one.invariant.rest c.in_err-other.ensures.ran)
+
+pub returns-in_default-clause-ran : goal.returns-in_default-clause-ran
+returns-in_default-clause-ran g c = let t = table_in c.args.codes.now in
+    list_ends t (stmt_to t c.args.self.now.left) (λ nu. here_in nu c.args.here) c.args.all.now c.loop-one.one-index c.one-item.result _ c.loop-one-test.true c.one-item.is c.in_default.not-Normal c.loop-one.invariant.rest c.in_ok-other.ensures.ran
+
+pub loop-one-preserved : goal.loop-one-preserved
+loop-one-preserved g c = let t = table_in c.args.codes.now in record {
+  rest = list_next t (stmt_to t c.args.self.now.left) (λ nu. here_in nu c.args.here) c.args.all.now c.loop-one.one-index c.one-item.result _ c.loop-one-test.true c.one-item.is c.in-Normal.is c.loop-one.invariant.rest c.in_ok-other.ensures.ran;
+  more = omega (arith, c.loop-one.invariant.more, c.in_ok-other.ensures.more);
+  sound = c.in_ok-other.ensures.sound;
+}
+
+pub returns-clause-ran : goal.returns-clause-ran
+returns-clause-ran g c = let t = table_in c.args.codes.now in
+    list_over t (stmt_to t c.args.self.now.left) (λ nu. here_in nu c.args.here) c.args.all.now c.loop-one.one-index c.loop-one-test.false c.loop-one.invariant.rest

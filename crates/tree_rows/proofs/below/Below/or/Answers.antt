@@ -1,0 +1,40 @@
+use Rattle.std.proofs.Common.{ap, ◌∙◌}
+use Rattle.turk_base.specs.Conversions.{truth}
+use Rattle.turk_base.specs.Errors.{choose}
+use Rattle.turk_base.specs.Values.{Val, Normal}
+use Rattle.turk_base.specs.Prog.{Prog, value}
+use Rattle.js_tree.specs.Expressions.{or_row}
+use Rattle.js_tree.specs.Rows.{expr_to}
+use Rattle.value_cells.specs.Seen.{Naming, val_in}
+use Rattle.run_host.specs.Told.{Says, here_in, told_value}
+use Rattle.run_host.proofs.Sequence.{then_on, ends_with}
+use Rattle.run_host.proofs.Exits.{value_exit, first_out}
+use Rattle.tree_rows.specs.Codes.{table_in}
+use Rattle.tree_rows.proofs.Lists.{onward_eq}
+use Rattle.tree_rows.proofs.below.Below.or.Goals as goal
+
+pub returns-in_err-value-clause-ran : goal.returns-in_err-value-clause-ran
+unfolding or_row
+returns-in_err-value-clause-ran g c =
+    let t = table_in c.args.codes.now in
+    let a : Naming → Val → Prog = λ nu v. value v in
+    let b : Naming → Val → Prog = λ nu v. expr_to t c.args.self.now.left (here_in nu c.args.here) c.args.b.now in
+    value_exit _ _ c.from_residual.ensures.1 (first_out (λ nu v. choose (truth v) (a nu v) (b nu v)) _ c.in_err-value.ensures.ran)
+
+pub returns-then-truth-clause-ran : goal.returns-then-truth-clause-ran
+unfolding or_row
+returns-then-truth-clause-ran g c =
+    let t = table_in c.args.codes.now in
+    let a : Naming → Val → Prog = λ nu v. value v in
+    let b : Naming → Val → Prog = λ nu v. expr_to t c.args.self.now.left (here_in nu c.args.here) c.args.b.now in
+    then_on (λ nu v. choose (truth v) (a nu v) (b nu v)) c.in_ok-value.ensures.ran
+    ((onward_eq (λ nu. ap (λ x. choose x (a nu (val_in nu c.in_ok-value.value)) (b nu (val_in nu c.in_ok-value.value))) (c.truth.ensures nu ∙ c.if-truth.true))).goes (λ nu. Says (Normal (val_in nu c.in_ok-value.value))) (g.H.Host.moment c.expr.new.host) ends_with)
+
+pub returns-clause-ran : goal.returns-clause-ran
+unfolding or_row
+returns-clause-ran g c =
+    let t = table_in c.args.codes.now in
+    let a : Naming → Val → Prog = λ nu v. value v in
+    let b : Naming → Val → Prog = λ nu v. expr_to t c.args.self.now.left (here_in nu c.args.here) c.args.b.now in
+    then_on (λ nu v. choose (truth v) (a nu v) (b nu v)) c.in_ok-value.ensures.ran
+    ((onward_eq (λ nu. ap (λ x. choose x (a nu (val_in nu c.in_ok-value.value)) (b nu (val_in nu c.in_ok-value.value))) (c.truth.ensures nu ∙ c.if-truth.false))).goes (λ nu. told_value nu c.expr-2.result) (g.H.Host.moment c.expr-2.new.host) c.expr-2.ensures.ran)
