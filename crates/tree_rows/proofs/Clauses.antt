@@ -85,6 +85,17 @@ module _ (table : List Code) (expr : Here → Expr → Prog) (stmt : Here → St
   pub tests_over : {rest : List Case} {x z : Moment} {start : Naming → Prog} → rest ≡ [] → Onward start (tests_from rest) x z → Onward start (λ nu. default_of table expr stmt (here nu) all) x z
   tests_over e so = onward_then so (onward_eq (λ nu. ap (λ l. tests_from l nu) e))
 
+-- The clauses from the default on.
+module _ (table : List Code) (expr : Here → Expr → Prog) (stmt : Here → Stmt → Prog) (here : Here) {rest : List Case} where
+  pub default_none : rest ≡ [] → default_of table expr stmt here rest ≡ clauses table expr stmt here rest
+  default_none e = ap (default_of table expr stmt here) e ∙ sym (ap (clauses table expr stmt here) e)
+
+  pub default_here : {c : Case} {cs : List Case} → rest ≡ c ∷ cs → (out-Case c).test ≡ None → default_of table expr stmt here rest ≡ clauses table expr stmt here rest
+  default_here {c} {cs} e n = ap (default_of table expr stmt here) e ∙ ap (λ t. choose (is_some t) (default_of table expr stmt here cs) (clauses table expr stmt here (c ∷ cs))) n ∙ sym (ap (clauses table expr stmt here) e)
+
+  pub default_next : {c : Case} {cs : List Case} {test : Expr} → rest ≡ c ∷ cs → (out-Case c).test ≡ Some test → default_of table expr stmt here rest ≡ default_of table expr stmt here cs
+  default_next {c} {cs} e n = ap (default_of table expr stmt here) e ∙ ap (λ t. choose (is_some t) (default_of table expr stmt here cs) (clauses table expr stmt here (c ∷ cs))) n
+
 pub chosen : {A : Type 0} (b : Bool) (go : Bool → A) → choose b (go true) (go false) ≡ go b
 chosen true go = refl
 chosen false go = refl

@@ -7,3 +7,4 @@ pub mod Clauses
 pub mod Members
 pub mod Items
 pub mod Tries
+pub mod Keys

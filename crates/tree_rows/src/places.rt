@@ -84,7 +84,7 @@ impl<
     }
 
     /// A base and a key; the property is not looked up yet.
-    pub(crate) fn member(
+    pub fn member(
         &self,
         codes: &Codes,
         host: &mut H,
@@ -112,7 +112,7 @@ impl<
     }
 
     /// A target, a callee or the operand of typeof.
-    pub(crate) fn place<'a>(
+    pub fn place<'a>(
         &self,
         codes: &Codes,
         host: &mut H,

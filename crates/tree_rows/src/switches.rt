@@ -31,12 +31,10 @@ fn default_from<'a>(cases: &'a [Case]) -> &'a [Case]
     loop {
         match rest {
             [] => return rest,
-            [case, others @ ..] => {
-                if case.test.is_none() {
-                    return rest;
-                }
-                rest = others;
-            }
+            [case, others @ ..] => match &case.test {
+                None => return rest,
+                Some(_) => rest = others,
+            },
         }
     }
 }

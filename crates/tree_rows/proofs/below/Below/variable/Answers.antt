@@ -8,14 +8,14 @@ use Rattle.run_host.proofs.Exits.{takes_exit}
 use Rattle.run_host.proofs.Fits.{takes_on}
 use Rattle.tree_rows.proofs.below.Below.variable.Goals as goal
 
-pub returns-in_default-clause-ran : goal.returns-in_default-clause-ran
+pub returns-in_default-clause-did : goal.returns-in_default-clause-did
 unfolding variable_row
-returns-in_default-clause-ran g c = rw c.in_default.is leads_same
+returns-in_default-clause-did g c = rw c.in_default.is leads_same
 
-pub returns-in_err-value-clause-ran : goal.returns-in_err-value-clause-ran
+pub returns-in_err-value-clause-did : goal.returns-in_err-value-clause-did
 unfolding variable_row
-returns-in_err-value-clause-ran g c = rw c.in-Some.is (takes_exit _ _ c.from_residual.ensures.1 (leaves_on (evaluated (Err _) c.in_err-value.ensures.ran) (λ nu v. set_variable (here_in nu c.args.here) (out-Variable c.args.x.now).named v)))
+returns-in_err-value-clause-did g c = rw c.in-Some.is (takes_exit _ _ c.from_residual.ensures.1 (leaves_on (evaluated (Err _) c.in_err-value.ensures.ran) (λ nu v. set_variable (here_in nu c.args.here) (out-Variable c.args.x.now).named v)))
 
-pub returns-clause-ran : goal.returns-clause-ran
+pub returns-clause-did : goal.returns-clause-did
 unfolding variable_row
-returns-clause-ran g c = rw c.in-Some.is (takes_on _ (λ nu v. set_variable (here_in nu c.args.here) (out-Variable c.args.x.now).named v) (λ nu u. u) c.set_variable.result (evaluated (Ok _) c.in_ok-value.ensures.ran) c.set_variable.ensures.did)
+returns-clause-did g c = rw c.in-Some.is (takes_on _ (λ nu v. set_variable (here_in nu c.args.here) (out-Variable c.args.x.now).named v) (λ nu u. u) c.set_variable.result (evaluated (Ok _) c.in_ok-value.ensures.ran) c.set_variable.ensures.did)
