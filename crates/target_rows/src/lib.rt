@@ -83,3 +83,32 @@ pub fn assign_with<
     set_place(below.alloc, host, here, &place, &value)?;
     Ok(value)
 }
+
+/// An assignment, with an operator or without.
+pub fn assignment<
+    H: Host,
+    E: Fn(Global, &Codes, u32, &mut H, Here, &Expr) -> Result<Value, Exit>,
+    S: Fn(Global, &Codes, u32, &mut H, Here, &Stmt) -> Result<Flow, Exit>,
+>(
+    below: &Below<H, E, S>,
+    codes: &Codes,
+    host: &mut H,
+    here: Here,
+    operator: Option<BinaryOperator>,
+    t: &Expr,
+    e: &Expr,
+) -> Result<Value, Exit>
+    requires below { Nests H H.moment H.is_sound (table_in codes.now) below.now.left (E.pre below.now.expr) (E.post below.now.expr) (S.pre below.now.stmt) (S.post below.now.stmt) }
+    requires sound { H.is_sound host.old }
+    requires here { here_needs here ≤ cells (H.moment host.old) }
+    ensures ran { Runs (λ nu. assign_row (expr_to (table_in codes.now) below.now.left) (here_in nu here) operator t.now e.now) (λ nu. told_value nu result) (H.moment host.old) (H.moment host.new) }
+    ensures exists { IfOk result (λ v. needs v ≤ cells (H.moment host.new)) }
+    ensures more { cells (H.moment host.old) ≤ cells (H.moment host.new) }
+    ensures thrown { IfErr result (λ x. exit_needs x ≤ cells (H.moment host.new)) }
+    ensures sound { H.is_sound host.new }
+{
+    match operator {
+        Some(operator) => assign_with(below, codes, host, here, operator, t, e),
+        None => below.assign(codes, host, here, t, e),
+    }
+}

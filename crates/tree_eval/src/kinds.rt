@@ -13,7 +13,7 @@ use host_steps::literals::{function, literal, name, this};
 use js_tree::{BinaryOperator, Expr, ExprNode, Stmt};
 use run_host::{Exit, Flow, Here, Host};
 use std::alloc::Global;
-use target_rows::{assign_with, update};
+use target_rows::{assignment, update};
 use tree_rows::{Below, Codes};
 use value_cells::Value;
 
@@ -57,7 +57,7 @@ pub fn expr_node<
         ExprNode::And(a, b) => below.and(codes, host, here, a.get(), b.get()),
         ExprNode::Or(a, b) => below.or(codes, host, here, a.get(), b.get()),
         ExprNode::Conditional(t, a, b) => below.conditional(codes, host, here, t.get(), a.get(), b.get()),
-        ExprNode::Assign(operator, t, e) => assigned(below, codes, host, here, *operator, t.get(), e.get()),
+        ExprNode::Assign(operator, t, e) => assignment(below, codes, host, here, *operator, t.get(), e.get()),
         ExprNode::Comma(a, b) => below.comma(codes, host, here, a.get(), b.get()),
         ExprNode::Print(es) => below.print(codes, host, here, es.as_slice()),
         ExprNode::Post(e) => below.post(codes, host, here, e.get()),
