@@ -6,5 +6,5 @@ pub mod Each
 pub mod Clauses
 pub mod Members
 pub mod Items
-pub mod Tries
+pub mod Catches
 pub mod Keys

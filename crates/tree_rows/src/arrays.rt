@@ -27,6 +27,7 @@ impl<
     S: Fn(Global, &Codes, u32, &mut H, Here, &Stmt) -> Result<Flow, Exit>,
 > Below<H, E, S> {
     /// One item of an array, put under its index.
+    #[tactic(none)]
     fn item(
         &self,
         codes: &Codes,
@@ -51,6 +52,7 @@ impl<
     }
 
     /// An array literal: the cell, then its items.
+    #[tactic(none)]
     pub fn array(
         &self,
         codes: &Codes,
@@ -77,6 +79,7 @@ impl<
     }
 
     /// One field of an object literal.
+    #[tactic(none)]
     fn field(
         &self,
         codes: &Codes,
@@ -99,6 +102,7 @@ impl<
     }
 
     /// An object literal: the cell, then its fields; it has no prototype.
+    #[tactic(none)]
     pub fn object(
         &self,
         codes: &Codes,

@@ -28,6 +28,7 @@ impl<
     S: Fn(Global, &Codes, u32, &mut H, Here, &Stmt) -> Result<Flow, Exit>,
 > Below<H, E, S> {
     /// `&&` (11.11).
+    #[tactic(none)]
     pub fn and(
         &self,
         codes: &Codes,
@@ -54,6 +55,7 @@ impl<
     }
 
     /// `||` (11.11).
+    #[tactic(none)]
     pub fn or(
         &self,
         codes: &Codes,
@@ -80,6 +82,7 @@ impl<
     }
 
     /// `? :` (11.12).
+    #[tactic(none)]
     pub fn conditional(
         &self,
         codes: &Codes,
@@ -107,6 +110,7 @@ impl<
     }
 
     /// A member (11.2.1).
+    #[tactic(none)]
     pub fn property(
         &self,
         codes: &Codes,
@@ -129,6 +133,7 @@ impl<
     }
 
     /// `delete` (11.4.1).
+    #[tactic(none)]
     pub fn delete(
         &self,
         codes: &Codes,
@@ -151,6 +156,7 @@ impl<
     }
 
     /// `=` (11.13.1).
+    #[tactic(none)]
     pub fn assign(
         &self,
         codes: &Codes,

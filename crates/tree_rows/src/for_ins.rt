@@ -30,6 +30,7 @@ impl<
     S: Fn(Global, &Codes, u32, &mut H, Here, &Stmt) -> Result<Flow, Exit>,
 > Below<H, E, S> {
     /// Sets the target of a turn to a key; the target is evaluated anew.
+    #[tactic(none)]
     fn assigned(
         &self,
         codes: &Codes,
@@ -57,6 +58,7 @@ impl<
     }
 
     /// The turn of a key that the chain still has.
+    #[tactic(none)]
     fn found_turn(
         &self,
         codes: &Codes,
@@ -80,6 +82,7 @@ impl<
     }
 
     /// The turn of a key, which the chain must still have.
+    #[tactic(none)]
     fn key_turn(
         &self,
         codes: &Codes,
@@ -107,6 +110,7 @@ impl<
     }
 
     /// The turns of keys, in order.
+    #[tactic(none)]
     fn key_turns(
         &self,
         codes: &Codes,
@@ -137,6 +141,7 @@ impl<
     }
 
     /// The turns over an object's keys, none over a primitive.
+    #[tactic(none)]
     fn keys_of(
         &self,
         codes: &Codes,
@@ -167,6 +172,7 @@ impl<
     }
 
     /// `for` .. `in`.
+    #[tactic(none)]
     pub fn for_in(
         &self,
         codes: &Codes,

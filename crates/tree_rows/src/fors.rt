@@ -25,6 +25,7 @@ impl<
     S: Fn(Global, &Codes, u32, &mut H, Here, &Stmt) -> Result<Flow, Exit>,
 > Below<H, E, S> {
     /// A loop's test at the end of a turn.
+    #[tactic(none)]
     fn again(&self, codes: &Codes, host: &mut H, here: Here, e: &Expr) -> Result<Flow, Exit>
         requires below { Nests H H.moment H.is_sound (table_in codes.now) self.now.left (E.pre self.now.expr) (E.post self.now.expr) (S.pre self.now.stmt) (S.post self.now.stmt) }
         requires sound { H.is_sound host.old }
@@ -44,6 +45,7 @@ impl<
     }
 
     /// One turn of do-while.
+    #[tactic(none)]
     fn do_while_turn(
         &self,
         codes: &Codes,
@@ -69,6 +71,7 @@ impl<
     }
 
     /// do-while (12.6.1).
+    #[tactic(none)]
     pub fn do_while(
         &self,
         codes: &Codes,
@@ -96,6 +99,7 @@ impl<
     }
 
     /// The step after a turn of `for`, where there is one.
+    #[tactic(none)]
     fn stepped(
         &self,
         codes: &Codes,
@@ -119,6 +123,7 @@ impl<
     }
 
     /// The body of a `for` and its step.
+    #[tactic(none)]
     fn for_body(
         &self,
         codes: &Codes,
@@ -144,6 +149,7 @@ impl<
     }
 
     /// One turn of `for`.
+    #[tactic(none)]
     fn for_turn(
         &self,
         codes: &Codes,
@@ -175,6 +181,7 @@ impl<
     }
 
     /// The turns of `for`.
+    #[tactic(none)]
     fn for_turns(
         &self,
         codes: &Codes,
@@ -203,6 +210,7 @@ impl<
     }
 
     /// `for` (12.6.3).
+    #[tactic(none)]
     pub fn for_loop(
         &self,
         codes: &Codes,

@@ -19,8 +19,9 @@ use std::alloc::Global;
 use value_cells::Value;
 
 /// The statement in a box, where there is one.
+#[tactic(none)]
 fn lent(boxed: &Option<Boxed<Stmt>>) -> Option<&Stmt>
-    ensures { option_copied result.entry ≡ boxed.now }
+    ensures { option_copied result ≡ boxed.now }
 {
     match boxed {
         Some(stmt) => Some(stmt.get()),
@@ -34,6 +35,7 @@ impl<
     S: Fn(Global, &Codes, u32, &mut H, Here, &Stmt) -> Result<Flow, Exit>,
 > Below<H, E, S> {
     /// A statement, by its kind.
+    #[tactic(none)]
     pub fn stmt_node(&self, codes: &Codes, host: &mut H, here: Here, s: &Stmt) -> Result<Flow, Exit>
         requires below { Nests H H.moment H.is_sound (table_in codes.now) self.now.left (E.pre self.now.expr) (E.post self.now.expr) (S.pre self.now.stmt) (S.post self.now.stmt) }
         requires sound { H.is_sound host.old }

@@ -1,5 +1,5 @@
 //! The rows of the evaluator: what each kind of node does, over a host and over what runs the nodes below.
-#![tactic(none)]
+#![tactic(auto)]
 
 mod arrays;
 mod below;

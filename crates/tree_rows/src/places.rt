@@ -34,6 +34,7 @@ impl<
     S: Fn(Global, &Codes, u32, &mut H, Here, &Stmt) -> Result<Flow, Exit>,
 > Below<H, E, S> {
     /// Expressions in order from left to right.
+    #[tactic(none)]
     pub fn each(
         &self,
         codes: &Codes,
@@ -59,6 +60,7 @@ impl<
     }
 
     /// A base and a key that is computed.
+    #[tactic(none)]
     fn computed(
         &self,
         codes: &Codes,
@@ -84,6 +86,7 @@ impl<
     }
 
     /// A base and a key; the property is not looked up yet.
+    #[tactic(none)]
     pub fn member(
         &self,
         codes: &Codes,
@@ -112,6 +115,7 @@ impl<
     }
 
     /// A target, a callee or the operand of typeof.
+    #[tactic(none)]
     pub fn place<'a>(
         &self,
         codes: &Codes,

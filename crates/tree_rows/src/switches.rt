@@ -23,6 +23,7 @@ use std::alloc::Global;
 use value_cells::Value;
 
 /// The clauses from the default on, none where there is no default.
+#[tactic(none)]
 fn default_from<'a>(cases: &'a [Case]) -> &'a [Case]
     ensures { (table : List Code) (expr : Spot → Expr → Prog) (stmt : Spot → Stmt → Prog) (here : Spot) → default_of table expr stmt here cases.now ≡ clauses table expr stmt here result.now }
 {
@@ -44,6 +45,7 @@ impl<
     S: Fn(Global, &Codes, u32, &mut H, Here, &Stmt) -> Result<Flow, Exit>,
 > Below<H, E, S> {
     /// The statements of clauses, in order.
+    #[tactic(none)]
     fn clauses(
         &self,
         codes: &Codes,
@@ -70,6 +72,7 @@ impl<
     }
 
     /// Whether a clause has a test and its value is the one that is looked for.
+    #[tactic(none)]
     fn meets(
         &self,
         codes: &Codes,
@@ -95,6 +98,7 @@ impl<
     }
 
     /// The clauses from the first on whose test meets the value, or from the default on.
+    #[tactic(none)]
     fn clause_for(
         &self,
         codes: &Codes,
@@ -128,6 +132,7 @@ impl<
     }
 
     /// `switch`.
+    #[tactic(none)]
     pub fn switching(
         &self,
         codes: &Codes,

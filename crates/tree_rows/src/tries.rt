@@ -28,6 +28,7 @@ impl<
     S: Fn(Global, &Codes, u32, &mut H, Here, &Stmt) -> Result<Flow, Exit>,
 > Below<H, E, S> {
     /// The body of a catch, in a frame that holds the value thrown.
+    #[tactic(none)]
     fn caught(
         &self,
         codes: &Codes,
@@ -52,6 +53,7 @@ impl<
     }
 
     /// The body of a `try`, and its catch where it threw.
+    #[tactic(none)]
     fn attempt(
         &self,
         codes: &Codes,
@@ -79,6 +81,7 @@ impl<
     }
 
     /// What a `finally` leaves of how the body ended: an abrupt end of its own comes in its place.
+    #[tactic(none)]
     fn finished(
         &self,
         codes: &Codes,
@@ -105,6 +108,7 @@ impl<
     }
 
     /// `try`.
+    #[tactic(none)]
     pub fn trying(
         &self,
         codes: &Codes,

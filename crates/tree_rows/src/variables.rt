@@ -27,6 +27,7 @@ impl<
     S: Fn(Global, &Codes, u32, &mut H, Here, &Stmt) -> Result<Flow, Exit>,
 > Below<H, E, S> {
     /// A block.
+    #[tactic(none)]
     pub fn block(
         &self,
         codes: &Codes,
@@ -47,6 +48,7 @@ impl<
     }
 
     /// One name of a `var`.
+    #[tactic(none)]
     fn variable(
         &self,
         codes: &Codes,
@@ -70,6 +72,7 @@ impl<
     }
 
     /// `var`.
+    #[tactic(none)]
     pub fn variables(
         &self,
         codes: &Codes,

@@ -28,11 +28,11 @@ returns-then-truth-clause-ran g c =
     let a : Naming → Val → Prog = λ nu v. expr_to t c.args.self.now.left (here_in nu c.args.here) c.args.b.now in
     let b : Naming → Val → Prog = λ nu v. value v in
     then_on (λ nu v. choose (truth v) (a nu v) (b nu v)) c.in_ok-value.ensures.ran
-    ((onward_eq (λ nu. ap (λ x. choose x (a nu (val_in nu c.in_ok-value.value)) (b nu (val_in nu c.in_ok-value.value))) (c.truth.ensures nu ∙ c.if-truth.true))).goes (λ nu. told_value nu c.expr-2.result) (g.H.Host.moment c.expr-2.new.host) c.expr-2.ensures.ran)
+    ((onward_eq (λ nu. ap (λ x. choose x (a nu (val_in nu c.in_ok-value.value)) (b nu (val_in nu c.in_ok-value.value))) (c.truth.ensures nu ∙ c.if-truth.true))).goes (λ nu. told_value nu c.expr-then-truth.result) (g.H.Host.moment c.expr-then-truth.new.host) c.expr-then-truth.ensures.ran)
 
-pub returns-clause-ran : goal.returns-clause-ran
+pub returns-else-truth-clause-ran : goal.returns-else-truth-clause-ran
 unfolding and_row
-returns-clause-ran g c =
+returns-else-truth-clause-ran g c =
     let t = table_in c.args.codes.now in
     let a : Naming → Val → Prog = λ nu v. expr_to t c.args.self.now.left (here_in nu c.args.here) c.args.b.now in
     let b : Naming → Val → Prog = λ nu v. value v in

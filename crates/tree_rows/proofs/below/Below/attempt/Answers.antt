@@ -7,7 +7,7 @@ use Rattle.run_host.specs.Told.{here_in, told_flow}
 use Rattle.run_host.specs.Did.{Runs}
 use Rattle.run_host.proofs.Sequence.{always_on}
 use Rattle.tree_rows.specs.Codes.{table_in}
-use Rattle.tree_rows.proofs.Tries.{catch_passes}
+use Rattle.tree_rows.proofs.Catches.{catch_passes}
 use Rattle.tree_rows.proofs.below.Below.attempt.Goals as goal
 
 pub returns-in_default-clause-ran : goal.returns-in_default-clause-ran

@@ -29,4 +29,4 @@ returns-clause-ran g c =
     let t = table_in c.args.codes.now in
     runs_on (λ nu f. ask (Declare f (out-Catch c.args.c.now).name (val_in nu c.args.value)) (λ _. stmt_to t c.args.self.now.left (record (here_in nu c.args.here) { frame = f }) (out-Catch c.args.c.now).body)) c.in_ok-frame.ensures.did
     (runs_on (λ nu _. stmt_to t c.args.self.now.left (record (here_in nu c.args.here) { frame = nu c.in_ok-frame.frame }) (out-Catch c.args.c.now).body) c.in_ok-declare.ensures.did
-    (subst (λ h. Runs (λ nu. stmt_to t c.args.self.now.left (here_in nu h) (out-Catch c.args.c.now).body) (λ nu. told_flow nu c.stmt.result) (g.H.Host.moment c.declare.new.host) (g.H.Host.moment c.stmt.new.host)) c.within.ensures c.stmt.ensures.ran))
+    (subst (λ h. Runs (λ nu. stmt_to t c.args.self.now.left (here_in nu h) (out-Catch c.args.c.now).body) (λ nu. told_flow nu c.stmt.result) (g.H.Host.moment c.declare.new.self) (g.H.Host.moment c.stmt.new.host)) c.within.ensures c.stmt.ensures.ran))

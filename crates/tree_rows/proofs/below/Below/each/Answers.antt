@@ -13,9 +13,9 @@ use Rattle.tree_rows.proofs.below.Below.each.Goals as goal
 
 pub loop-e-init : goal.loop-e-init
 loop-e-init g c = let t = table_in c.args.codes.now in record {
-  rest = each_begin (expr_to t c.args.self.now.left) (λ nu. here_in nu c.args.here) c.args.es.now _ c.new-values.ensures;
+  rest = each_begin (expr_to t c.args.self.now.left) (λ nu. here_in nu c.args.here) c.args.es.now _ c.new-values.ensures.items;
   more = omega arith;
-  exists = subst (λ vs. all_needs vs ≤ cells (g.H.Host.moment c.args.host.now)) (sym c.new-values.ensures) (omega arith);
+  exists = subst (λ vs. all_needs vs ≤ cells (g.H.Host.moment c.args.host.now)) (sym c.new-values.ensures.items) (omega arith);
   sound = c.requires.sound;
 }
 

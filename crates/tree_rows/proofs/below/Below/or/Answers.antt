@@ -30,11 +30,11 @@ returns-then-truth-clause-ran g c =
     then_on (λ nu v. choose (truth v) (a nu v) (b nu v)) c.in_ok-value.ensures.ran
     ((onward_eq (λ nu. ap (λ x. choose x (a nu (val_in nu c.in_ok-value.value)) (b nu (val_in nu c.in_ok-value.value))) (c.truth.ensures nu ∙ c.if-truth.true))).goes (λ nu. Says (Normal (val_in nu c.in_ok-value.value))) (g.H.Host.moment c.expr.new.host) ends_with)
 
-pub returns-clause-ran : goal.returns-clause-ran
+pub returns-else-truth-clause-ran : goal.returns-else-truth-clause-ran
 unfolding or_row
-returns-clause-ran g c =
+returns-else-truth-clause-ran g c =
     let t = table_in c.args.codes.now in
     let a : Naming → Val → Prog = λ nu v. value v in
     let b : Naming → Val → Prog = λ nu v. expr_to t c.args.self.now.left (here_in nu c.args.here) c.args.b.now in
     then_on (λ nu v. choose (truth v) (a nu v) (b nu v)) c.in_ok-value.ensures.ran
-    ((onward_eq (λ nu. ap (λ x. choose x (a nu (val_in nu c.in_ok-value.value)) (b nu (val_in nu c.in_ok-value.value))) (c.truth.ensures nu ∙ c.if-truth.false))).goes (λ nu. told_value nu c.expr-2.result) (g.H.Host.moment c.expr-2.new.host) c.expr-2.ensures.ran)
+    ((onward_eq (λ nu. ap (λ x. choose x (a nu (val_in nu c.in_ok-value.value)) (b nu (val_in nu c.in_ok-value.value))) (c.truth.ensures nu ∙ c.if-truth.false))).goes (λ nu. told_value nu c.expr-else-truth.result) (g.H.Host.moment c.expr-else-truth.new.host) c.expr-else-truth.ensures.ran)

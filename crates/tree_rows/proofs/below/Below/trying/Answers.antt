@@ -3,7 +3,7 @@ use Rattle.js_tree.specs.Rows.{expr_to, stmt_to}
 use Rattle.run_host.specs.Told.{here_in, told_flow}
 use Rattle.run_host.specs.Did.{Runs}
 use Rattle.tree_rows.specs.Codes.{table_in}
-use Rattle.tree_rows.proofs.Tries.{finally_goes, finally_halts, finally_stops}
+use Rattle.tree_rows.proofs.Catches.{finally_goes, finally_halts, finally_stops}
 use Rattle.tree_rows.proofs.below.Below.trying.Goals as goal
 
 pub returns-in_default-clause-ran : goal.returns-in_default-clause-ran
