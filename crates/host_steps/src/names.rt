@@ -100,7 +100,12 @@ fn built_in_value<H: Host>(host: &H, name: &Units) -> Value
 }
 
 /// The value of a name.
-pub fn get_variable<H: Host>(alloc: Global, host: &mut H, here: Here, x: &Named) -> Result<Value, Exit>
+pub fn get_variable<H: Host>(
+    alloc: Global,
+    host: &mut H,
+    here: Here,
+    x: &Named,
+) -> Result<Value, Exit>
     requires sound { H.is_sound host.old }
     requires here { here_needs here ≤ cells (H.moment host.old) }
     ensures did { Takes (λ nu. pieces.get_variable (here_in nu here) x.now) val_in result (H.moment host.old) (H.moment host.new) }

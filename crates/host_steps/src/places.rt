@@ -27,7 +27,12 @@ pub enum Place<'a> {
 }
 
 /// The value of a place (8.7.1).
-pub fn get_place<H: Host>(alloc: Global, host: &mut H, here: Here, place: &Place) -> Result<Value, Exit>
+pub fn get_place<H: Host>(
+    alloc: Global,
+    host: &mut H,
+    here: Here,
+    place: &Place,
+) -> Result<Value, Exit>
     requires sound { H.is_sound host.old }
     requires here { here_needs here ≤ cells (H.moment host.old) }
     requires place { place_needs place.now ≤ cells (H.moment host.old) }

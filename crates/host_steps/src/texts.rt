@@ -8,9 +8,9 @@ ghost use Rattle.run_host.specs.Told.{exit_needs};
 ghost use Rattle.run_host.specs.Steps.{Takes};
 
 use crate::values::plain_text;
+use itoa::Buffer;
 use run_host::{Exit, Halt, Host, Refusal};
 use std::alloc::Global;
-use itoa::Buffer;
 use turk_base::{NoMemory, Units};
 use value_cells::Value;
 

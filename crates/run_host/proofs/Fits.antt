@@ -22,15 +22,17 @@ use Rattle.run_host.proofs.Sequence.{leads_then, leads_out, gives_on, no_memory,
 
 -- a program is another's equal, under each naming that fits
 pub onward_fits : {f g : Naming → Prog} {m : Moment} → ((nu : Naming) → Fits nu m.heap.names → f nu ≡ g nu) → Onward f g m m
-onward_fits {f} {g} {m} e = record { goes = λ t last r. record {
-  same = r.same;
-  within = r.within;
-  added = r.added;
-  made = r.made;
-  shown = r.shown;
-  ran = λ nu h E s b l c. subst (λ p. Comes (place E b m) p (m.heap.first nu) (rest_of m) r.added (next_of E (draws_in last.made) last.unmade) (t nu) (last.heap.first nu) (rest_of last))
-      (sym (e nu (fits_before r.same.grows h))) (r.ran nu h E s b l c);
-} }
+onward_fits {f} {g} {m} e = record {
+  goes = λ t last r. record {
+    same = r.same;
+    within = r.within;
+    added = r.added;
+    made = r.made;
+    shown = r.shown;
+    ran = λ nu h E s b l c. subst (λ p. Comes (place E b m) p (m.heap.first nu) (rest_of m) r.added (next_of E (draws_in last.made) last.unmade) (t nu) (last.heap.first nu) (rest_of last))
+        (sym (e nu (fits_before r.same.grows h))) (r.ran nu h E s b l c);
+  };
+}
 
 pub leads_fits : {A : Type 0} {f g : Naming → Step A} {m : Moment} → ((nu : Naming) → Fits nu m.heap.names → (go : A → Prog) → f nu go ≡ g nu go) → Leads f g m m
 leads_fits e = record { goes = λ go. onward_fits (λ nu h. e nu h (go nu)) }
