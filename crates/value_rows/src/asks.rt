@@ -50,7 +50,8 @@ pub fn draw_below<H: Host>(alloc: Global, host: &mut H, bound: Whole) -> Result<
     ensures sound { H.is_sound host.new }
     ensures exists { IfOk result (λ v. needs v ≤ cells (H.moment host.new)) }
 {
-    if bound.get() < 1 {
+    let small = bound.get() < 1;
+    if small {
         return Err(type_error_of(alloc, host, b"random needs a positive number"));
     }
     let drawn = host.draw(bound)?;

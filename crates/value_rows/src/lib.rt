@@ -1,7 +1,9 @@
 //! Operators on values, `typeof`, and the asks, over a host.
-#![tactic(auto)]
+#![tactic(none)]
 
 pub mod asks;
+pub mod comparisons;
 pub mod methods;
 pub mod operators;
+pub mod sums;
 pub mod types;

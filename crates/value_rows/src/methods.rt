@@ -64,7 +64,15 @@ pub fn cell_method(kind: CellKind, key: &Units) -> Option<u8>
 {
     match kind {
         CellKind::Array => array_method(key),
-        CellKind::BuiltIn(12) => string_method(key),
-        _ => None,
+        CellKind::BuiltIn(which) => {
+            if which == 12 {
+                string_method(key)
+            } else {
+                None
+            }
+        }
+        CellKind::Frame(_) => None,
+        CellKind::Plain(_) => None,
+        CellKind::Function(_, _) => None,
     }
 }

@@ -3,15 +3,14 @@ ghost use Rattle.std.specs.Prelude.{◌≡◌, ◌≤◌, ℤ, Option, Ok, IfOk}
 ghost use Rattle.turk_base.specs.Operators as spec;
 ghost use Rattle.turk_base.specs.Operators.{number_or_refused};
 ghost use Rattle.turk_base.specs.Values.{Number};
-ghost use Rattle.js_tree.specs.Operate.{stepped, answered, unary_result, operate};
+ghost use Rattle.js_tree.specs.Operate.{stepped, answered, unary_result};
 ghost use Rattle.value_cells.specs.Needs.{needs};
 ghost use Rattle.value_cells.specs.Seen.{Naming, val_in};
 ghost use Rattle.host_steps.specs.Answered.{answer_of};
 ghost use Rattle.value_rows.specs.Pairs.{pair_then};
-ghost use Rattle.value_rows.specs.Kinds.{IsArithmetic, IsBits};
 
 use host_steps::values::{integer, number, truth};
-use js_tree::{BinaryOperator, Fix, Sign, UnaryOperator};
+use js_tree::{Fix, Sign, UnaryOperator};
 use run_host::Refusal;
 use turk_base::Whole;
 use value_cells::Value;
@@ -62,7 +61,7 @@ pub fn unary(operator: UnaryOperator, value: &Value) -> Result<Value, Refusal>
 }
 
 /// The numbers of both operands, from left to right.
-fn two_numbers(x: &Value, y: &Value) -> Result<(Whole, Whole), Refusal>
+pub fn two_numbers(x: &Value, y: &Value) -> Result<(Whole, Whole), Refusal>
     ensures { (nu : Naming) (f : ℤ → ℤ → Option ℤ) → spec.numeric f (val_in nu x.now) (val_in nu y.now) ≡ pair_then result (λ m n. number_or_refused (f m n)) }
 {
     let m = number(x)?;
@@ -79,32 +78,92 @@ fn two_integers(x: &Value, y: &Value) -> Result<(Whole, Whole), Refusal>
     Ok((m, n))
 }
 
-/// `-`, `*`, `/` and `%` (11.5, 11.6.2).
-fn arithmetic(operator: BinaryOperator, x: &Value, y: &Value) -> Result<Value, Refusal>
-    requires { IsArithmetic operator }
-    ensures { (nu : Naming) → operate operator (val_in nu x.now) (val_in nu y.now) ≡ answer_of (val_in nu) result }
+/// `-` (11.6.2).
+pub fn difference(x: &Value, y: &Value) -> Result<Value, Refusal>
+    ensures value { (nu : Naming) → spec.numeric spec.difference (val_in nu x.now) (val_in nu y.now) ≡ answer_of (val_in nu) result }
+    ensures needs { IfOk result (λ v. needs v ≡ 0) }
 {
     let (m, n) = two_numbers(x, y)?;
-    match operator {
-        BinaryOperator::Subtract => number_or_not_whole(whole_numbers::sub(m, n)),
-        BinaryOperator::Multiply => number_or_not_whole(whole_numbers::mul(m, n)),
-        BinaryOperator::Divide => number_or_not_whole(whole_numbers::div(m, n)),
-        _ => number_or_not_whole(whole_numbers::rem(m, n)),
-    }
+    number_or_not_whole(whole_numbers::sub(m, n))
 }
 
-/// The shifts and bit operators (11.7, 11.10).
-fn bits(operator: BinaryOperator, x: &Value, y: &Value) -> Result<Value, Refusal>
-    requires { IsBits operator }
-    ensures { (nu : Naming) → operate operator (val_in nu x.now) (val_in nu y.now) ≡ answer_of (val_in nu) result }
+/// `*` (11.5.1).
+pub fn product(x: &Value, y: &Value) -> Result<Value, Refusal>
+    ensures value { (nu : Naming) → spec.numeric spec.product (val_in nu x.now) (val_in nu y.now) ≡ answer_of (val_in nu) result }
+    ensures needs { IfOk result (λ v. needs v ≡ 0) }
+{
+    let (m, n) = two_numbers(x, y)?;
+    number_or_not_whole(whole_numbers::mul(m, n))
+}
+
+/// `/` (11.5.2).
+pub fn quotient(x: &Value, y: &Value) -> Result<Value, Refusal>
+    ensures value { (nu : Naming) → spec.numeric spec.quotient (val_in nu x.now) (val_in nu y.now) ≡ answer_of (val_in nu) result }
+    ensures needs { IfOk result (λ v. needs v ≡ 0) }
+{
+    let (m, n) = two_numbers(x, y)?;
+    number_or_not_whole(whole_numbers::div(m, n))
+}
+
+/// `%` (11.5.3).
+pub fn remainder(x: &Value, y: &Value) -> Result<Value, Refusal>
+    ensures value { (nu : Naming) → spec.numeric spec.remainder (val_in nu x.now) (val_in nu y.now) ≡ answer_of (val_in nu) result }
+    ensures needs { IfOk result (λ v. needs v ≡ 0) }
+{
+    let (m, n) = two_numbers(x, y)?;
+    number_or_not_whole(whole_numbers::rem(m, n))
+}
+
+/// `<<` (11.7.1).
+pub fn shift_left(x: &Value, y: &Value) -> Result<Value, Refusal>
+    ensures value { (nu : Naming) → spec.bitwise spec.shift_left (val_in nu x.now) (val_in nu y.now) ≡ answer_of (val_in nu) result }
+    ensures needs { IfOk result (λ v. needs v ≡ 0) }
 {
     let (m, n) = two_integers(x, y)?;
-    match operator {
-        BinaryOperator::ShiftLeft => Ok(Value::Number(whole_numbers::shl(m, n))),
-        BinaryOperator::ShiftRight => Ok(Value::Number(whole_numbers::shr(m, n))),
-        BinaryOperator::ShiftRightZero => Ok(Value::Number(whole_numbers::ushr(m, n))),
-        BinaryOperator::BitAnd => Ok(Value::Number(whole_numbers::and(m, n))),
-        BinaryOperator::BitOr => Ok(Value::Number(whole_numbers::or(m, n))),
-        _ => Ok(Value::Number(whole_numbers::xor(m, n))),
-    }
+    Ok(Value::Number(whole_numbers::shl(m, n)))
+}
+
+/// `>>` (11.7.2).
+pub fn shift_right(x: &Value, y: &Value) -> Result<Value, Refusal>
+    ensures value { (nu : Naming) → spec.bitwise spec.shift_right (val_in nu x.now) (val_in nu y.now) ≡ answer_of (val_in nu) result }
+    ensures needs { IfOk result (λ v. needs v ≡ 0) }
+{
+    let (m, n) = two_integers(x, y)?;
+    Ok(Value::Number(whole_numbers::shr(m, n)))
+}
+
+/// `>>>` (11.7.3).
+pub fn shift_right_zero(x: &Value, y: &Value) -> Result<Value, Refusal>
+    ensures value { (nu : Naming) → spec.bitwise spec.shift_right_unsigned (val_in nu x.now) (val_in nu y.now) ≡ answer_of (val_in nu) result }
+    ensures needs { IfOk result (λ v. needs v ≡ 0) }
+{
+    let (m, n) = two_integers(x, y)?;
+    Ok(Value::Number(whole_numbers::ushr(m, n)))
+}
+
+/// `&` (11.10).
+pub fn bit_and(x: &Value, y: &Value) -> Result<Value, Refusal>
+    ensures value { (nu : Naming) → spec.bitwise spec.bits_and (val_in nu x.now) (val_in nu y.now) ≡ answer_of (val_in nu) result }
+    ensures needs { IfOk result (λ v. needs v ≡ 0) }
+{
+    let (m, n) = two_integers(x, y)?;
+    Ok(Value::Number(whole_numbers::and(m, n)))
+}
+
+/// `|` (11.10).
+pub fn bit_or(x: &Value, y: &Value) -> Result<Value, Refusal>
+    ensures value { (nu : Naming) → spec.bitwise spec.bits_or (val_in nu x.now) (val_in nu y.now) ≡ answer_of (val_in nu) result }
+    ensures needs { IfOk result (λ v. needs v ≡ 0) }
+{
+    let (m, n) = two_integers(x, y)?;
+    Ok(Value::Number(whole_numbers::or(m, n)))
+}
+
+/// `^` (11.10).
+pub fn bit_xor(x: &Value, y: &Value) -> Result<Value, Refusal>
+    ensures value { (nu : Naming) → spec.bitwise spec.bits_xor (val_in nu x.now) (val_in nu y.now) ≡ answer_of (val_in nu) result }
+    ensures needs { IfOk result (λ v. needs v ≡ 0) }
+{
+    let (m, n) = two_integers(x, y)?;
+    Ok(Value::Number(whole_numbers::xor(m, n)))
 }

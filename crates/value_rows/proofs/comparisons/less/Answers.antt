@@ -1,0 +1,11 @@
+use Rattle.std.specs.Prelude.{Ok}
+use Rattle.std.proofs.Common.{ap, ◌∙◌}
+use Rattle.turk_base.specs.Values.{Truth}
+use Rattle.turk_base.specs.Operators.{and_then, less}
+use Rattle.value_rows.proofs.comparisons.less.Goals as goal
+
+pub returns-in_err-pair-clause-value : goal.returns-in_err-pair-clause-value
+returns-in_err-pair-clause-value c = λ nu. ap (λ p. and_then p (λ p. Ok (Truth (less p)))) (c.in_err-pair.ensures nu)
+
+pub returns-clause-value : goal.returns-clause-value
+returns-clause-value c = λ nu. ap (λ p. and_then p (λ p. Ok (Truth (less p)))) (c.in_ok-pair.ensures nu) ∙ ap (λ b. Ok (Truth b)) (c.is_less.ensures)

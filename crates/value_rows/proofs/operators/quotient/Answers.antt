@@ -1,0 +1,9 @@
+use Rattle.std.proofs.Common.{sym, ap, ◌∙◌}
+use Rattle.turk_base.specs.Operators.{quotient, number_or_refused}
+use Rattle.value_rows.proofs.operators.quotient.Goals as goal
+
+pub returns-in_err-two_numbers-clause-value : goal.returns-in_err-two_numbers-clause-value
+returns-in_err-two_numbers-clause-value c = λ nu. c.in_err-two_numbers.ensures nu quotient
+
+pub returns-clause-value : goal.returns-clause-value
+returns-clause-value c = λ nu. c.in_ok-two_numbers.ensures nu quotient ∙ ap number_or_refused (sym c.div.ensures) ∙ c.number_or_not_whole.ensures.value nu
