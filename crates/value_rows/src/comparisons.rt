@@ -87,7 +87,7 @@ fn is_at_most(pair: &Sides) -> bool
 }
 
 /// `<` (11.8.1).
-pub fn less(x: &Value, y: &Value) -> Result<Value, Refusal>
+pub fn less<'a>(x: &'a Value, y: &'a Value) -> Result<Value, Refusal>
     ensures value { (nu : Naming) → spec.ordered spec.less (val_in nu x.now) (val_in nu y.now) ≡ answer_of (val_in nu) result }
     ensures needs { IfOk result (λ v. needs v ≡ 0) }
 {
@@ -96,7 +96,7 @@ pub fn less(x: &Value, y: &Value) -> Result<Value, Refusal>
 }
 
 /// `>` (11.8.2).
-pub fn greater(x: &Value, y: &Value) -> Result<Value, Refusal>
+pub fn greater<'a>(x: &'a Value, y: &'a Value) -> Result<Value, Refusal>
     ensures value { (nu : Naming) → spec.ordered spec.greater (val_in nu x.now) (val_in nu y.now) ≡ answer_of (val_in nu) result }
     ensures needs { IfOk result (λ v. needs v ≡ 0) }
 {
@@ -105,7 +105,7 @@ pub fn greater(x: &Value, y: &Value) -> Result<Value, Refusal>
 }
 
 /// `<=` (11.8.3).
-pub fn less_or_equal(x: &Value, y: &Value) -> Result<Value, Refusal>
+pub fn less_or_equal<'a>(x: &'a Value, y: &'a Value) -> Result<Value, Refusal>
     ensures value { (nu : Naming) → spec.ordered spec.less_or_equal (val_in nu x.now) (val_in nu y.now) ≡ answer_of (val_in nu) result }
     ensures needs { IfOk result (λ v. needs v ≡ 0) }
 {
@@ -114,7 +114,7 @@ pub fn less_or_equal(x: &Value, y: &Value) -> Result<Value, Refusal>
 }
 
 /// `>=` (11.8.4).
-pub fn greater_or_equal(x: &Value, y: &Value) -> Result<Value, Refusal>
+pub fn greater_or_equal<'a>(x: &'a Value, y: &'a Value) -> Result<Value, Refusal>
     ensures value { (nu : Naming) → spec.ordered spec.greater_or_equal (val_in nu x.now) (val_in nu y.now) ≡ answer_of (val_in nu) result }
     ensures needs { IfOk result (λ v. needs v ≡ 0) }
 {
