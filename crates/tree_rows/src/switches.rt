@@ -1,6 +1,5 @@
 //! The row of `switch` (ECMA-262 3rd ed. 12.11).
 ghost use Rattle.std.specs.Prelude.{◌≡◌, ◌<◌, ◌≤◌, IfOk, IfErr, true, false, List};
-ghost use Rattle.std.specs.Option.{option_copied};
 ghost use Rattle.js_tree.specs.Rows.{expr_to, stmt_to};
 ghost use Rattle.js_tree.specs.Statements.{clauses, default_of, test_clause, clause_for, switch_row};
 ghost use Rattle.turk_base.specs.Prog.{Prog};
@@ -77,13 +76,13 @@ impl<
         host: &mut H,
         here: Here,
         value: &Value,
-        test: Option<&Expr>,
+        test: &Option<Expr>,
     ) -> Result<bool, Exit>
         requires below { Nests H H.moment H.is_sound (table_in codes.now) self.now.left (E.pre self.now.expr) (E.post self.now.expr) (S.pre self.now.stmt) (S.post self.now.stmt) }
         requires sound { H.is_sound host.old }
         requires here { here_needs here ≤ cells (H.moment host.old) }
         requires value { needs value.now ≤ cells (H.moment host.old) }
-        ensures did { Takes (λ nu go. test_clause (table_in codes.now) (expr_to (table_in codes.now) self.now.left) (stmt_to (table_in codes.now) self.now.left) (here_in nu here) (val_in nu value.now) (option_copied test.entry) (go true) (go false)) (λ nu b. b) result (H.moment host.old) (H.moment host.new) }
+        ensures did { Takes (λ nu go. test_clause (table_in codes.now) (expr_to (table_in codes.now) self.now.left) (stmt_to (table_in codes.now) self.now.left) (here_in nu here) (val_in nu value.now) test.now (go true) (go false)) (λ nu b. b) result (H.moment host.old) (H.moment host.new) }
         ensures more { cells (H.moment host.old) ≤ cells (H.moment host.new) }
         ensures thrown { IfErr result (λ x. exit_needs x ≤ cells (H.moment host.new)) }
         ensures sound { H.is_sound host.new }
@@ -119,7 +118,7 @@ impl<
             match rest {
                 [] => return self.clauses(codes, host, here, default_from(cases)),
                 [case, others @ ..] => {
-                    if self.meets(codes, host, here, value, case.test.as_ref())? {
+                    if self.meets(codes, host, here, value, &case.test)? {
                         return self.clauses(codes, host, here, rest);
                     }
                     rest = others;
