@@ -1,7 +1,7 @@
-//! The rows of operators (ECMA-262 3rd ed. 11.3 to 11.10, 11.13).
-ghost use Rattle.std.specs.Prelude.{◌≡◌, ◌<◌, ◌≤◌, IfOk, IfErr, Some};
+//! The rows of operators on values (ECMA-262 3rd ed. 11.4 to 11.10).
+ghost use Rattle.std.specs.Prelude.{◌≡◌, ◌<◌, ◌≤◌, IfOk, IfErr};
 ghost use Rattle.js_tree.specs.Rows.{expr_to, stmt_to};
-ghost use Rattle.js_tree.specs.Expressions.{update_row, typeof_row, unary_row, binary_row, assign_row};
+ghost use Rattle.js_tree.specs.Expressions.{typeof_row, unary_row, binary_row};
 ghost use Rattle.value_cells.specs.Needs.{needs};
 ghost use Rattle.run_host.specs.Moment.{cells};
 ghost use Rattle.run_host.specs.Told.{told_value, here_in, here_needs, exit_needs};
@@ -9,47 +9,14 @@ ghost use Rattle.run_host.specs.Did.{Runs};
 ghost use Rattle.tree_rows.specs.Codes.{table_in};
 ghost use Rattle.tree_rows.specs.Nests.{Nests};
 
-use host_steps::places::{get_place, set_place};
-use host_steps::values::number;
-use js_tree::{BinaryOperator, Expr, Fix, Sign, Stmt, UnaryOperator};
+use js_tree::{BinaryOperator, Expr, Stmt, UnaryOperator};
 use run_host::{Exit, Flow, Here, Host};
 use std::alloc::Global;
 use tree_rows::{Below, Codes};
 use value_cells::Value;
-use value_rows::operators::{answer, number_or_not_whole, step, unary as unary_value};
+use value_rows::operators::unary as unary_value;
 use value_rows::sums::operate_values;
 use value_rows::types::typeof_place;
-
-/// `++` and `--` (11.3, 11.4.4, 11.4.5).
-pub fn update<
-    H: Host,
-    E: Fn(Global, &Codes, u32, &mut H, Here, &Expr) -> Result<Value, Exit>,
-    S: Fn(Global, &Codes, u32, &mut H, Here, &Stmt) -> Result<Flow, Exit>,
->(
-    below: &Below<H, E, S>,
-    codes: &Codes,
-    host: &mut H,
-    here: Here,
-    e: &Expr,
-    sign: Sign,
-    fix: Fix,
-) -> Result<Value, Exit>
-    requires below { Nests H H.moment H.is_sound (table_in codes.now) below.now.left (E.pre below.now.expr) (E.post below.now.expr) (S.pre below.now.stmt) (S.post below.now.stmt) }
-    requires sound { H.is_sound host.old }
-    requires here { here_needs here ≤ cells (H.moment host.old) }
-    ensures ran { Runs (λ nu. update_row (expr_to (table_in codes.now) below.now.left) (here_in nu here) e.now sign fix) (λ nu. told_value nu result) (H.moment host.old) (H.moment host.new) }
-    ensures more { cells (H.moment host.old) ≤ cells (H.moment host.new) }
-    ensures thrown { IfErr result (λ x. exit_needs x ≤ cells (H.moment host.new)) }
-    ensures sound { H.is_sound host.new }
-    ensures exists { IfOk result (λ v. needs v ≤ cells (H.moment host.new)) }
-{
-    let place = below.place(codes, host, here, e)?;
-    let value = get_place(below.alloc, host, here, &place)?;
-    let old = number(&value)?;
-    let new = number_or_not_whole(step(sign, old))?;
-    set_place(below.alloc, host, here, &place, &new)?;
-    Ok(answer(fix, old, new))
-}
 
 /// `+`, `-`, `~` and `!` before an expression (11.4.6 to 11.4.9).
 pub fn unary<
@@ -129,35 +96,4 @@ pub fn binary<
     let x = below.expr(codes, host, here, a)?;
     let y = below.expr(codes, host, here, b)?;
     operate_values(below.alloc, host, operator, &x, &y)
-}
-
-/// Assignment with an operator: the old value is read before the right side (11.13.2).
-pub fn assign_with<
-    H: Host,
-    E: Fn(Global, &Codes, u32, &mut H, Here, &Expr) -> Result<Value, Exit>,
-    S: Fn(Global, &Codes, u32, &mut H, Here, &Stmt) -> Result<Flow, Exit>,
->(
-    below: &Below<H, E, S>,
-    codes: &Codes,
-    host: &mut H,
-    here: Here,
-    operator: BinaryOperator,
-    target: &Expr,
-    e: &Expr,
-) -> Result<Value, Exit>
-    requires below { Nests H H.moment H.is_sound (table_in codes.now) below.now.left (E.pre below.now.expr) (E.post below.now.expr) (S.pre below.now.stmt) (S.post below.now.stmt) }
-    requires sound { H.is_sound host.old }
-    requires here { here_needs here ≤ cells (H.moment host.old) }
-    ensures ran { Runs (λ nu. assign_row (expr_to (table_in codes.now) below.now.left) (here_in nu here) (Some operator) target.now e.now) (λ nu. told_value nu result) (H.moment host.old) (H.moment host.new) }
-    ensures more { cells (H.moment host.old) ≤ cells (H.moment host.new) }
-    ensures thrown { IfErr result (λ x. exit_needs x ≤ cells (H.moment host.new)) }
-    ensures sound { H.is_sound host.new }
-    ensures exists { IfOk result (λ v. needs v ≤ cells (H.moment host.new)) }
-{
-    let place = below.place(codes, host, here, target)?;
-    let x = get_place(below.alloc, host, here, &place)?;
-    let y = below.expr(codes, host, here, e)?;
-    let value = operate_values(below.alloc, host, operator, &x, &y)?;
-    set_place(below.alloc, host, here, &place, &value)?;
-    Ok(value)
 }
