@@ -1,4 +1,4 @@
 pub mod Frames
-pub mod Lines
+pub mod Joined
+pub mod Opened
 pub mod Others
-pub mod Scopes

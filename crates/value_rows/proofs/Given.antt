@@ -1,11 +1,12 @@
 -- What is computed of values alone as a step, under the namings that fit.
-use Rattle.std.specs.Prelude.{Option, Some, None, Result, Ok, Err, is_some}
+use Rattle.std.specs.Prelude.{ℤ, Option, Some, None, Result, Ok, Err, is_some}
 use Rattle.std.specs.Option.{option_map}
-use Rattle.std.proofs.Common.{◌≡◌, refl, sym, ap, subst, ◌∙◌, ℕ, zero, suc, true, false}
+use Rattle.std.proofs.Common.{◌≡◌, refl, sym, ap, subst, ◌∙◌, ℕ, Bool, IsErrAnd, true, false}
 use Rattle.turk_base.specs.Names.{Name, Units}
 use Rattle.turk_base.specs.Values as model
 use Rattle.turk_base.specs.Values.{Val}
-use Rattle.turk_base.specs.Conversions.{text_in}
+use Rattle.turk_base.specs.Conversions.{text_in, reading}
+use Rattle.turk_base.specs.Operators.{Pair, and_then, ordered, numbers_of}
 use Rattle.turk_base.specs.Prog.{Prog, Get, Inherits, Ask, ask, value, given}
 use Rattle.turk_base.specs.Errors.{type_error}
 use Rattle.std.proofs.Common.{codes}
@@ -24,7 +25,9 @@ use Rattle.run_host.specs.Did.{Runs}
 use Rattle.run_host.specs.Steps.{Gives, Leaves}
 use Rattle.run_host.proofs.Sequence.{ends_with, refused}
 use Rattle.run_host.proofs.Fits.{onward_fits, leads_fits, runs_on, runs_left}
+use Rattle.host_steps.specs.Answered.{answer_of}
 use Rattle.value_rows.specs.Kinds.{cell_in}
+use Rattle.value_rows.specs.Pairs.{pair_then}
 
 fits_given : {A B : Type 0} {m : Moment} (f : Naming → Result A model.Refusal) (h : Naming → B → A) (b : B) → ((nu : Naming) → Fits nu m.heap.names → f nu ≡ Ok (h nu b)) → Gives (λ nu. given (f nu)) (λ nu. h nu b) m m
 fits_given f h b e = leads_fits (λ nu l go. ap (λ x. given x go) (e nu l))
@@ -37,6 +40,16 @@ answered_ok f v e = runs_on (λ nu v. value v) (fits_given f val_in v e) ends_wi
 
 pub answered_err : {m : Moment} (f : Naming → Result Val model.Refusal) (why : Refusal) (x : Exit) → x ≡ exit.Halted (halt.Refused why) → ((nu : Naming) → Fits nu m.heap.names → f nu ≡ Err (refusal_in why)) → Runs (λ nu. given (f nu) (λ v. value v)) (λ nu. told_value nu (Err x)) m m
 answered_err {m} f why x is e = subst (λ x. Runs (λ nu. given (f nu) (λ v. value v)) (λ nu. told_exit nu x) m m) (sym is) (runs_left (λ nu v. value v) (fits_refused f why e))
+
+-- ---- a refusal that is handed on
+
+pub refused_on : {A B : Type 0} {h : B → A} (r : Result B Refusal) (why : Refusal) → IsErrAnd r (λ x. x ≡ why) → Err (refusal_in why) ≡ answer_of h r
+refused_on (Ok b) why m = absurd m
+refused_on (Err y) why m = ap (λ y. Err (refusal_in y)) (sym m)
+
+pub refused_pair : {A : Type 0} {go : ℤ → ℤ → Result A model.Refusal} (r : Result (ℤ × ℤ) Refusal) (why : Refusal) → IsErrAnd r (λ x. x ≡ why) → Err (refusal_in why) ≡ pair_then r go
+refused_pair (Ok b) why m = absurd m
+refused_pair (Err y) why m = ap (λ y. Err (refusal_in y)) (sym m)
 
 -- ---- primitives and objects
 
@@ -72,6 +85,21 @@ no_function (code.Truth b) n nu otherwise go = refl
 no_function (code.Number z) n nu otherwise go = refl
 no_function (code.Text t) n nu otherwise go = refl
 no_function (code.Object i) n nu otherwise go = absurd (n i refl)
+
+-- two values that are not both texts are compared by their readings
+pub numbers_compared : (holds : Pair → Bool) (x y : Value) → ((s t : Units) → x ≡ code.Text s → y ≡ code.Text t → ⊥) → (nu : Naming) → ordered holds (val_in nu x) (val_in nu y) ≡
+    and_then (and_then (reading (val_in nu x)) (λ m. and_then (reading (val_in nu y)) (λ n. numbers_of m n))) (λ p. Ok (model.Truth (holds p)))
+numbers_compared holds code.Undefined y n nu = refl
+numbers_compared holds code.Null y n nu = refl
+numbers_compared holds (code.Truth b) y n nu = refl
+numbers_compared holds (code.Number z) y n nu = refl
+numbers_compared holds (code.Object i) y n nu = refl
+numbers_compared holds (code.Text s) code.Undefined n nu = refl
+numbers_compared holds (code.Text s) code.Null n nu = refl
+numbers_compared holds (code.Text s) (code.Truth b) n nu = refl
+numbers_compared holds (code.Text s) (code.Number z) n nu = refl
+numbers_compared holds (code.Text s) (code.Object i) n nu = refl
+numbers_compared holds (code.Text s) (code.Text t) n nu = absurd (n s t refl refl)
 
 -- ---- what was found
 

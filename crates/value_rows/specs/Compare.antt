@@ -1,9 +1,7 @@
--- What is compared, as the code holds it.
-use Rattle.turk_base.specs.Operators.{Pair, Texts, Numbers, Unordered}
-use Rattle.value_rows.specs.declared.comparisons.Sides.{Sides}
-use Rattle.value_rows.specs.declared.comparisons.Sides.TheVariants as code
+-- What is compared of two values that are not both texts, as the code holds it.
+use Rattle.std.specs.Prelude.{ℤ, Option, Some, None}
+use Rattle.turk_base.specs.Operators.{Pair, Numbers, Unordered}
 
-abbrev pub pair_in : Sides → Pair
-pair_in (code.Texts s t) = Texts s.now t.now
-pair_in (code.Numbers m n) = Numbers m n
-pair_in code.Unordered = Unordered
+abbrev pub numbers_in : Option (ℤ × ℤ) → Pair
+numbers_in (Some (m, n)) = Numbers m n
+numbers_in None = Unordered

@@ -1,5 +1,5 @@
 //! The asks over a host: a task and its token, a reply, a draw, a join and a crash.
-ghost use Rattle.std.specs.Prelude.{◌≡◌, ◌≤◌, IfOk, IfErr};
+ghost use Rattle.std.specs.Prelude.{◌≡◌, ◌≤◌, ◌≤ℤ◌, pos, int_lt, false, IfOk, IfErr};
 ghost use Rattle.turk_base.specs.Prog.{Post, ask, made};
 ghost use Rattle.js_tree.specs.ScriptCalls as calls;
 ghost use Rattle.value_cells.specs.Needs.{needs};
@@ -41,6 +41,14 @@ pub fn reply_to<H: Host>(host: &mut H, token: &Units) -> Result<Value, Exit>
     Ok(Value::Text(text))
 }
 
+/// Whether a bound is below 1.
+fn is_below_one(bound: Whole) -> bool
+    ensures test { int_lt bound (pos 1) ≡ result }
+    ensures bound { result ≡ false → pos 1 ≤ℤ bound }
+{
+    bound.get() < 1
+}
+
 /// A number from 0 to below the bound, which must be positive.
 pub fn draw_below<H: Host>(alloc: Global, host: &mut H, bound: Whole) -> Result<Value, Exit>
     requires sound { H.is_sound host.old }
@@ -50,8 +58,7 @@ pub fn draw_below<H: Host>(alloc: Global, host: &mut H, bound: Whole) -> Result<
     ensures sound { H.is_sound host.new }
     ensures exists { IfOk result (λ v. needs v ≤ cells (H.moment host.new)) }
 {
-    let small = bound.get() < 1;
-    if small {
+    if is_below_one(bound) {
         return Err(type_error_of(alloc, host, b"random needs a positive number"));
     }
     let drawn = host.draw(bound)?;

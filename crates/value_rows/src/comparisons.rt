@@ -2,124 +2,109 @@
 ghost use Rattle.std.specs.Prelude.{◌≡◌, ◌≤◌, IfOk, Ok, not};
 ghost use Rattle.convert_rules.specs.Prims.{reading_of};
 ghost use Rattle.turk_base.specs.Operators as spec;
-ghost use Rattle.turk_base.specs.Operators.{and_then};
+ghost use Rattle.turk_base.specs.Operators.{and_then, units_less};
+ghost use Rattle.turk_base.specs.Conversions as reads;
 ghost use Rattle.turk_base.specs.Values.{Truth};
 ghost use Rattle.value_cells.specs.Needs.{needs};
 ghost use Rattle.value_cells.specs.Seen.{Naming, Fits, val_in};
 ghost use Rattle.run_host.specs.Moment.{cells};
 ghost use Rattle.host_steps.specs.Answered.{answer_of};
-ghost use Rattle.value_rows.specs.Compare.{pair_in};
+ghost use Rattle.value_rows.specs.Compare.{numbers_in};
 
-use convert_rules::{Reading, is_before, readings_equal, same_texts};
+use convert_rules::{Reading, is_before as before, readings_equal, same_texts};
 use host_steps::values::{reading, same};
 use run_host::{Host, Refusal};
 use turk_base::{Units, Whole};
 use value_cells::Value;
 
-/// What is compared: two texts, two numbers, or what has no order.
-#[derive(Drop)]
-pub enum Sides<'a> {
-    Texts(&'a Units, &'a Units),
-    Numbers(Whole, Whole),
-    Unordered,
+/// Whether the one text is before the other, by units.
+fn is_before(s: &Units, t: &Units) -> bool
+    ensures { units_less s.now t.now ≡ result }
+{
+    before(s.as_slice(), t.as_slice())
 }
 
-/// Two readings as what is compared.
-fn compare_readings<'a>(x: Reading, y: Reading) -> Result<Sides<'a>, Refusal>
-    ensures { spec.numbers_of (reading_of x) (reading_of y) ≡ answer_of pair_in result }
+/// The numbers of two readings, None where one of them is no number.
+fn numbers_of(x: Reading, y: Reading) -> Result<Option<(Whole, Whole)>, Refusal>
+    ensures { spec.numbers_of (reading_of x) (reading_of y) ≡ answer_of numbers_in result }
 {
     match x {
         Reading::Outside => Err(Refusal::NotWhole),
         Reading::Nan => match y {
             Reading::Outside => Err(Refusal::NotWhole),
-            _ => Ok(Sides::Unordered),
+            _ => Ok(None),
         },
         Reading::Whole(m) => match y {
             Reading::Outside => Err(Refusal::NotWhole),
-            Reading::Nan => Ok(Sides::Unordered),
-            Reading::Whole(n) => Ok(Sides::Numbers(m, n)),
+            Reading::Nan => Ok(None),
+            Reading::Whole(n) => Ok(Some((m, n))),
         },
     }
 }
 
-/// What of two values is compared (11.8.5).
-fn compare<'a>(x: &'a Value, y: &'a Value) -> Result<Sides<'a>, Refusal>
-    ensures { (nu : Naming) → spec.pair_of (val_in nu x.now) (val_in nu y.now) ≡ answer_of pair_in result }
+/// The numbers of two values that are not both texts (11.8.5).
+fn numbers(x: &Value, y: &Value) -> Result<Option<(Whole, Whole)>, Refusal>
+    ensures { (nu : Naming) → and_then (reads.reading (val_in nu x.now)) (λ m. and_then (reads.reading (val_in nu y.now)) (λ n. spec.numbers_of m n)) ≡ answer_of numbers_in result }
 {
-    match (x, y) {
-        (Value::Text(s), Value::Text(t)) => Ok(Sides::Texts(s, t)),
-        _ => compare_readings(reading(x)?, reading(y)?),
-    }
-}
-
-/// The same with its sides changed.
-fn swapped(pair: Sides) -> Sides
-    ensures less { spec.greater (pair_in pair) ≡ spec.less (pair_in result) }
-    ensures or_equal { spec.greater_or_equal (pair_in pair) ≡ spec.less_or_equal (pair_in result) }
-{
-    match pair {
-        Sides::Texts(s, t) => Sides::Texts(t, s),
-        Sides::Numbers(m, n) => Sides::Numbers(n, m),
-        Sides::Unordered => Sides::Unordered,
-    }
-}
-
-/// Whether the first is less.
-fn is_less(pair: &Sides) -> bool
-    ensures { spec.less (pair_in pair.now) ≡ result }
-{
-    match pair {
-        Sides::Texts(s, t) => is_before(s.as_slice(), t.as_slice()),
-        Sides::Numbers(m, n) => m.get() < n.get(),
-        Sides::Unordered => false,
-    }
-}
-
-/// Whether the first is less or the same.
-fn is_at_most(pair: &Sides) -> bool
-    ensures { spec.less_or_equal (pair_in pair.now) ≡ result }
-{
-    match pair {
-        Sides::Texts(s, t) => !is_before(t.as_slice(), s.as_slice()),
-        Sides::Numbers(m, n) => m.get() <= n.get(),
-        Sides::Unordered => false,
-    }
+    let m = reading(x)?;
+    let n = reading(y)?;
+    numbers_of(m, n)
 }
 
 /// `<` (11.8.1).
-pub fn less<'a>(x: &'a Value, y: &'a Value) -> Result<Value, Refusal>
+pub fn less(x: &Value, y: &Value) -> Result<Value, Refusal>
     ensures value { (nu : Naming) → spec.ordered spec.less (val_in nu x.now) (val_in nu y.now) ≡ answer_of (val_in nu) result }
     ensures needs { IfOk result (λ v. needs v ≡ 0) }
 {
-    let pair = compare(x, y)?;
-    Ok(Value::Truth(is_less(&pair)))
+    match (x, y) {
+        (Value::Text(s), Value::Text(t)) => Ok(Value::Truth(is_before(s, t))),
+        _ => match numbers(x, y)? {
+            Some((m, n)) => Ok(Value::Truth(m.get() < n.get())),
+            None => Ok(Value::Truth(false)),
+        },
+    }
 }
 
 /// `>` (11.8.2).
-pub fn greater<'a>(x: &'a Value, y: &'a Value) -> Result<Value, Refusal>
+pub fn greater(x: &Value, y: &Value) -> Result<Value, Refusal>
     ensures value { (nu : Naming) → spec.ordered spec.greater (val_in nu x.now) (val_in nu y.now) ≡ answer_of (val_in nu) result }
     ensures needs { IfOk result (λ v. needs v ≡ 0) }
 {
-    let pair = compare(x, y)?;
-    Ok(Value::Truth(is_less(&swapped(pair))))
+    match (x, y) {
+        (Value::Text(s), Value::Text(t)) => Ok(Value::Truth(is_before(t, s))),
+        _ => match numbers(x, y)? {
+            Some((m, n)) => Ok(Value::Truth(n.get() < m.get())),
+            None => Ok(Value::Truth(false)),
+        },
+    }
 }
 
 /// `<=` (11.8.3).
-pub fn less_or_equal<'a>(x: &'a Value, y: &'a Value) -> Result<Value, Refusal>
+pub fn less_or_equal(x: &Value, y: &Value) -> Result<Value, Refusal>
     ensures value { (nu : Naming) → spec.ordered spec.less_or_equal (val_in nu x.now) (val_in nu y.now) ≡ answer_of (val_in nu) result }
     ensures needs { IfOk result (λ v. needs v ≡ 0) }
 {
-    let pair = compare(x, y)?;
-    Ok(Value::Truth(is_at_most(&pair)))
+    match (x, y) {
+        (Value::Text(s), Value::Text(t)) => Ok(Value::Truth(!is_before(t, s))),
+        _ => match numbers(x, y)? {
+            Some((m, n)) => Ok(Value::Truth(m.get() <= n.get())),
+            None => Ok(Value::Truth(false)),
+        },
+    }
 }
 
 /// `>=` (11.8.4).
-pub fn greater_or_equal<'a>(x: &'a Value, y: &'a Value) -> Result<Value, Refusal>
+pub fn greater_or_equal(x: &Value, y: &Value) -> Result<Value, Refusal>
     ensures value { (nu : Naming) → spec.ordered spec.greater_or_equal (val_in nu x.now) (val_in nu y.now) ≡ answer_of (val_in nu) result }
     ensures needs { IfOk result (λ v. needs v ≡ 0) }
 {
-    let pair = compare(x, y)?;
-    Ok(Value::Truth(is_at_most(&swapped(pair))))
+    match (x, y) {
+        (Value::Text(s), Value::Text(t)) => Ok(Value::Truth(!is_before(s, t))),
+        _ => match numbers(x, y)? {
+            Some((m, n)) => Ok(Value::Truth(n.get() <= m.get())),
+            None => Ok(Value::Truth(false)),
+        },
+    }
 }
 
 /// `==` by the readings of both sides.

@@ -1,5 +1,5 @@
 //! Operators on values, `typeof`, and the asks, over a host.
-#![tactic(none)]
+#![tactic(auto)]
 
 pub mod asks;
 pub mod comparisons;

@@ -1,4 +1,4 @@
-use Rattle.call_rows.proofs.Lines.{line_at}
+use Rattle.call_rows.proofs.Joined.{line_at}
 use Rattle.call_rows.specs.Lines.{line_from}
 use Rattle.run_host.specs.Moment.{cells}
 use Rattle.run_host.specs.Steps.{Leads}

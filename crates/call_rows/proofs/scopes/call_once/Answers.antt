@@ -1,4 +1,4 @@
-use Rattle.call_rows.proofs.Scopes.{local_of, more_cells}
+use Rattle.call_rows.proofs.Opened.{local_of, more_cells}
 use Rattle.js_tree.specs.Calls.{call_value}
 use Rattle.js_tree.specs.Rows.{stmt_to}
 use Rattle.run_host.proofs.Exits.{value_exit}

@@ -1,11 +1,21 @@
-use Rattle.std.specs.Prelude.{Ok}
-use Rattle.std.proofs.Common.{ap, ◌∙◌}
-use Rattle.turk_base.specs.Values.{Truth}
-use Rattle.turk_base.specs.Operators.{and_then, less}
+use Rattle.std.specs.Prelude.{Ok, not}
+use Rattle.std.proofs.Common.{ap, sym, ◌∙◌}
+use Rattle.turk_base.specs.Values.{Truth, Text}
+use Rattle.turk_base.specs.Operators.{and_then, ordered, less}
+use Rattle.value_cells.specs.Seen.{val_in}
+use Rattle.value_rows.proofs.Given.{numbers_compared, refused_on}
+use Rattle.value_rows.specs.Compare.{numbers_in}
+use Rattle.host_steps.specs.Answered.{answer_of}
 use Rattle.value_rows.proofs.comparisons.less.Goals as goal
 
-pub returns-in_err-pair-clause-value : goal.returns-in_err-pair-clause-value
-returns-in_err-pair-clause-value c = λ nu. ap (λ p. and_then p (λ p. Ok (Truth (less p)))) (c.in_err-pair.ensures nu)
+pub returns-in-Text-Text-clause-value : goal.returns-in-Text-Text-clause-value
+returns-in-Text-Text-clause-value c = λ nu. ap (λ v. ordered less (val_in nu v) (val_in nu c.args.y.now)) c.in-Text-Text.is-0 ∙ ap (λ v. ordered less (Text c.in-Text-Text.s.now) (val_in nu v)) c.in-Text-Text.is-1 ∙ ap (λ b. Ok (Truth (b))) c.is_before.ensures
 
-pub returns-clause-value : goal.returns-clause-value
-returns-clause-value c = λ nu. ap (λ p. and_then p (λ p. Ok (Truth (less p)))) (c.in_ok-pair.ensures nu) ∙ ap (λ b. Ok (Truth b)) (c.is_less.ensures)
+pub returns-in_err-numbers-in_default-clause-value : goal.returns-in_err-numbers-in_default-clause-value
+returns-in_err-numbers-in_default-clause-value c = λ nu. numbers_compared less c.args.x.now c.args.y.now c.in_default.not-Text-Text nu ∙ ap (λ p. and_then p (λ p. Ok (Truth (less p)))) (c.in_err-numbers-in_default.ensures nu) ∙ refused_on _ _ c.from_residual.ensures.1
+
+pub returns-in-Some-clause-value : goal.returns-in-Some-clause-value
+returns-in-Some-clause-value c = λ nu. numbers_compared less c.args.x.now c.args.y.now c.in_default.not-Text-Text nu ∙ ap (λ p. and_then p (λ p. Ok (Truth (less p)))) (c.in_ok-numbers-in_default.ensures nu ∙ ap (λ o. Ok (numbers_in o)) c.in-Some.is)
+
+pub returns-in-None-clause-value : goal.returns-in-None-clause-value
+returns-in-None-clause-value c = λ nu. numbers_compared less c.args.x.now c.args.y.now c.in_default.not-Text-Text nu ∙ ap (λ p. and_then p (λ p. Ok (Truth (less p)))) (c.in_ok-numbers-in_default.ensures nu ∙ ap (λ o. Ok (numbers_in o)) c.in-None.is)
