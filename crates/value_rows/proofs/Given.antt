@@ -43,13 +43,13 @@ answered_err {m} f why x is e = subst (λ x. Runs (λ nu. given (f nu) (λ v. va
 
 -- ---- a refusal that is handed on
 
-pub refused_on : {A B : Type 0} {h : B → A} (r : Result B Refusal) (why : Refusal) → IsErrAnd r (λ x. x ≡ why) → Err (refusal_in why) ≡ answer_of h r
-refused_on (Ok b) why m = absurd m
-refused_on (Err y) why m = ap (λ y. Err (refusal_in y)) (sym m)
+pub refused_on : {A B : Type 0} (h : B → A) (r : Result B Refusal) (why : Refusal) → IsErrAnd r (λ x. x ≡ why) → Err (refusal_in why) ≡ answer_of h r
+refused_on h (Ok b) why m = absurd m
+refused_on h (Err y) why m = ap (λ y. Err (refusal_in y)) (sym m)
 
-pub refused_pair : {A : Type 0} {go : ℤ → ℤ → Result A model.Refusal} (r : Result (ℤ × ℤ) Refusal) (why : Refusal) → IsErrAnd r (λ x. x ≡ why) → Err (refusal_in why) ≡ pair_then r go
-refused_pair (Ok b) why m = absurd m
-refused_pair (Err y) why m = ap (λ y. Err (refusal_in y)) (sym m)
+pub refused_pair : {A : Type 0} (go : ℤ → ℤ → Result A model.Refusal) (r : Result (ℤ × ℤ) Refusal) (why : Refusal) → IsErrAnd r (λ x. x ≡ why) → Err (refusal_in why) ≡ pair_then r go
+refused_pair go (Ok b) why m = absurd m
+refused_pair go (Err y) why m = ap (λ y. Err (refusal_in y)) (sym m)
 
 -- ---- primitives and objects
 

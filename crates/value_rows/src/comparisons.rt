@@ -1,5 +1,5 @@
 //! Order and equality of values (ECMA-262 3rd ed. 11.8, 11.9).
-ghost use Rattle.std.specs.Prelude.{◌≡◌, ◌≤◌, IfOk, Ok, not};
+ghost use Rattle.std.specs.Prelude.{◌≡◌, ◌≤◌, IfOk, Ok, not, int_lt, int_le};
 ghost use Rattle.convert_rules.specs.Prims.{reading_of};
 ghost use Rattle.turk_base.specs.Operators as spec;
 ghost use Rattle.turk_base.specs.Operators.{and_then, units_less};
@@ -24,8 +24,15 @@ fn is_before(s: &Units, t: &Units) -> bool
     before(s.as_slice(), t.as_slice())
 }
 
+/// The numbers on both sides of a comparison.
+#[derive(Clone, Copy, Drop)]
+pub struct Sides {
+    pub left: Whole,
+    pub right: Whole,
+}
+
 /// The numbers of two readings, None where one of them is no number.
-fn numbers_of(x: Reading, y: Reading) -> Result<Option<(Whole, Whole)>, Refusal>
+fn numbers_of(x: Reading, y: Reading) -> Result<Option<Sides>, Refusal>
     ensures { spec.numbers_of (reading_of x) (reading_of y) ≡ answer_of numbers_in result }
 {
     match x {
@@ -37,18 +44,32 @@ fn numbers_of(x: Reading, y: Reading) -> Result<Option<(Whole, Whole)>, Refusal>
         Reading::Whole(m) => match y {
             Reading::Outside => Err(Refusal::NotWhole),
             Reading::Nan => Ok(None),
-            Reading::Whole(n) => Ok(Some((m, n))),
+            Reading::Whole(n) => Ok(Some(Sides { left: m, right: n })),
         },
     }
 }
 
 /// The numbers of two values that are not both texts (11.8.5).
-fn numbers(x: &Value, y: &Value) -> Result<Option<(Whole, Whole)>, Refusal>
+fn numbers(x: &Value, y: &Value) -> Result<Option<Sides>, Refusal>
     ensures { (nu : Naming) → and_then (reads.reading (val_in nu x.now)) (λ m. and_then (reads.reading (val_in nu y.now)) (λ n. spec.numbers_of m n)) ≡ answer_of numbers_in result }
 {
     let m = reading(x)?;
     let n = reading(y)?;
     numbers_of(m, n)
+}
+
+/// Whether the one number is less.
+fn is_lower(m: Whole, n: Whole) -> bool
+    ensures { int_lt m n ≡ result }
+{
+    m.get() < n.get()
+}
+
+/// Whether the one number is less or the same.
+fn is_at_most(m: Whole, n: Whole) -> bool
+    ensures { int_le m n ≡ result }
+{
+    m.get() <= n.get()
 }
 
 /// `<` (11.8.1).
@@ -59,7 +80,7 @@ pub fn less(x: &Value, y: &Value) -> Result<Value, Refusal>
     match (x, y) {
         (Value::Text(s), Value::Text(t)) => Ok(Value::Truth(is_before(s, t))),
         _ => match numbers(x, y)? {
-            Some((m, n)) => Ok(Value::Truth(m.get() < n.get())),
+            Some(sides) => Ok(Value::Truth(is_lower(sides.left, sides.right))),
             None => Ok(Value::Truth(false)),
         },
     }
@@ -73,7 +94,7 @@ pub fn greater(x: &Value, y: &Value) -> Result<Value, Refusal>
     match (x, y) {
         (Value::Text(s), Value::Text(t)) => Ok(Value::Truth(is_before(t, s))),
         _ => match numbers(x, y)? {
-            Some((m, n)) => Ok(Value::Truth(n.get() < m.get())),
+            Some(sides) => Ok(Value::Truth(is_lower(sides.right, sides.left))),
             None => Ok(Value::Truth(false)),
         },
     }
@@ -87,7 +108,7 @@ pub fn less_or_equal(x: &Value, y: &Value) -> Result<Value, Refusal>
     match (x, y) {
         (Value::Text(s), Value::Text(t)) => Ok(Value::Truth(!is_before(t, s))),
         _ => match numbers(x, y)? {
-            Some((m, n)) => Ok(Value::Truth(m.get() <= n.get())),
+            Some(sides) => Ok(Value::Truth(is_at_most(sides.left, sides.right))),
             None => Ok(Value::Truth(false)),
         },
     }
@@ -101,7 +122,7 @@ pub fn greater_or_equal(x: &Value, y: &Value) -> Result<Value, Refusal>
     match (x, y) {
         (Value::Text(s), Value::Text(t)) => Ok(Value::Truth(!is_before(s, t))),
         _ => match numbers(x, y)? {
-            Some((m, n)) => Ok(Value::Truth(n.get() <= m.get())),
+            Some(sides) => Ok(Value::Truth(is_at_most(sides.right, sides.left))),
             None => Ok(Value::Truth(false)),
         },
     }

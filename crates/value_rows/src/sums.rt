@@ -19,9 +19,8 @@ ghost use Rattle.run_host.specs.Steps.{Gives, Onward};
 ghost use Rattle.host_steps.specs.Answered.{answer_of};
 ghost use Rattle.value_rows.specs.Kinds.{cell_in};
 
-use crate::comparisons;
-use crate::operators;
 use crate::operators::{number_or_not_whole, two_numbers};
+use crate::{comparisons, operators};
 use host_steps::errors::{no_function, type_error_of};
 use host_steps::literals::prototype_key;
 use host_steps::texts::{paid, text_of};

@@ -6,7 +6,7 @@ use Rattle.value_rows.proofs.Given.{refused_on}
 use Rattle.value_rows.proofs.comparisons.equals.Goals as goal
 
 pub returns-in_err-holds-clause-value : goal.returns-in_err-holds-clause-value
-returns-in_err-holds-clause-value g c = λ nu l. ap (λ r. and_then r (λ b. Ok (Truth b))) (c.in_err-holds.ensures nu l) ∙ refused_on _ _ c.from_residual.ensures.1
+returns-in_err-holds-clause-value g c = λ nu l. ap (λ r. and_then r (λ b. Ok (Truth b))) (c.in_err-holds.ensures nu l) ∙ refused_on _ _ _ c.from_residual.ensures.1
 
 pub returns-clause-value : goal.returns-clause-value
 returns-clause-value g c = λ nu l. ap (λ r. and_then r (λ b. Ok (Truth b))) (c.in_ok-holds.ensures nu l)

@@ -5,8 +5,8 @@ use Rattle.turk_base.specs.Operators.{bits_or}
 use Rattle.value_rows.proofs.Given.{refused_on}
 use Rattle.value_rows.proofs.operators.bit_or.Goals as goal
 
-pub returns-in_err-two_integers-clause-value : goal.returns-in_err-two_integers-clause-value
-returns-in_err-two_integers-clause-value c = λ nu. c.in_err-two_integers.ensures nu bits_or ∙ refused_on _ _ c.from_residual.ensures.1
+pub returns-in_err-m-clause-value : goal.returns-in_err-m-clause-value
+returns-in_err-m-clause-value c = λ nu. c.in_err-m.ensures nu bits_or ∙ refused_on _ _ _ c.from_residual.ensures.1
 
 pub returns-clause-value : goal.returns-clause-value
-returns-clause-value c = λ nu. c.in_ok-two_integers.ensures nu bits_or ∙ ap (λ n. Ok (Number n)) (sym c.or.ensures)
+returns-clause-value c = λ nu. c.in_ok-m.ensures nu bits_or ∙ ap (λ n. Ok (Number n)) (sym c.or.ensures)

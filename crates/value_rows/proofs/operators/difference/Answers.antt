@@ -3,8 +3,8 @@ use Rattle.turk_base.specs.Operators.{difference, number_or_refused}
 use Rattle.value_rows.proofs.Given.{refused_on}
 use Rattle.value_rows.proofs.operators.difference.Goals as goal
 
-pub returns-in_err-two_numbers-clause-value : goal.returns-in_err-two_numbers-clause-value
-returns-in_err-two_numbers-clause-value c = λ nu. c.in_err-two_numbers.ensures nu difference ∙ refused_on _ _ c.from_residual.ensures.1
+pub returns-in_err-m-clause-value : goal.returns-in_err-m-clause-value
+returns-in_err-m-clause-value c = λ nu. c.in_err-m.ensures nu difference ∙ refused_on _ _ _ c.from_residual.ensures.1
 
 pub returns-clause-value : goal.returns-clause-value
-returns-clause-value c = λ nu. c.in_ok-two_numbers.ensures nu difference ∙ ap number_or_refused (sym c.sub.ensures) ∙ c.number_or_not_whole.ensures.value nu
+returns-clause-value c = λ nu. c.in_ok-m.ensures nu difference ∙ ap number_or_refused (sym c.sub.ensures) ∙ c.number_or_not_whole.ensures.value nu
