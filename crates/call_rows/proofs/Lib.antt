@@ -1,4 +1,1 @@
-pub mod Frames
-pub mod Joined
 pub mod Opened
-pub mod Others

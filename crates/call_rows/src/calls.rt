@@ -18,7 +18,8 @@ ghost use Rattle.host_steps.specs.Places.{place_in, place_needs};
 ghost use Rattle.tree_rows.specs.Codes.{code_in, table_in};
 ghost use Rattle.tree_rows.specs.Nests.{Nests};
 
-use crate::names::{add_parameters, enter};
+use call_steps::ends::{call_method, returned};
+use call_steps::names::{add_parameters, enter};
 use host_steps::errors::no_function;
 use host_steps::places::{Place, get_place};
 use js_tree::{Expr, Stmt};
@@ -28,19 +29,6 @@ use tree_rows::{Below, CodeRef, Codes};
 use turk_base::Units;
 use value_cells::{CellKind, Value};
 use value_rows::methods::{cell_method, text_method};
-
-/// The value of a call by how its body ended.
-fn returned(flow: Flow) -> Value
-    ensures value { (nu : Naming) → called (flow_in nu flow) ≡ value (val_in nu result) }
-    ensures needs { needs result ≤ flow_needs flow }
-{
-    match flow {
-        Flow::Return(value) => value,
-        Flow::Normal => Value::Undefined,
-        Flow::Break => Value::Undefined,
-        Flow::Continue => Value::Undefined,
-    }
-}
 
 /// The body of a function in a frame of its own.
 fn run_code<
@@ -69,7 +57,7 @@ fn run_code<
 {
     let frame = host.make(CellKind::Frame(Some(around)))?;
     add_parameters(below.alloc, host, frame, code.parameters, arguments)?;
-    enter(below.alloc, host, frame, code)?;
+    enter(below.alloc, host, frame, code.parameters, code.body, code.variables.as_slice())?;
     let flow = below.list(codes, host, Here { frame, this }, code.body.statements())?;
     Ok(returned(flow))
 }
@@ -167,29 +155,6 @@ pub fn call_value<
     match function {
         Value::Object(cell) => call_cell(below, codes, host, *cell, this, arguments),
         _ => Err(no_function(below.alloc, host)),
-    }
-}
-
-/// A call of a method by its number.
-fn call_method<H: Host>(
-    alloc: Global,
-    host: &mut H,
-    which: Option<u8>,
-    this: &Value,
-    arguments: &[Value],
-) -> Result<Value, Exit>
-    requires sound { H.is_sound host.old }
-    requires this { needs this.now ≤ cells (H.moment host.old) }
-    requires arguments { all_needs arguments.now ≤ cells (H.moment host.old) }
-    ensures ran { (table : List Code) (stmt : Spot → Stmt → Prog) → Runs (λ nu. calls.call_method table stmt which (val_in nu this.now) (map (val_in nu) arguments.now)) (λ nu. told_value nu result) (H.moment host.old) (H.moment host.new) }
-    ensures more { cells (H.moment host.old) ≤ cells (H.moment host.new) }
-    ensures thrown { IfErr result (λ x. exit_needs x ≤ cells (H.moment host.new)) }
-    ensures sound { H.is_sound host.new }
-    ensures exists { IfOk result (λ v. needs v ≤ cells (H.moment host.new)) }
-{
-    match which {
-        Some(which) => host.built_in(which, this, arguments),
-        None => Err(no_function(alloc, host)),
     }
 }
 

@@ -18,6 +18,7 @@ ghost use Rattle.tree_rows.specs.Codes.{table_in};
 ghost use Rattle.tree_rows.specs.Nests.{Nests};
 
 use crate::calls::call_code;
+use call_steps::ends::{construct_built_in, kept, no_constructor};
 use host_steps::errors::type_error_of;
 use host_steps::literals::prototype_key;
 use host_steps::places::get_place;
@@ -27,17 +28,6 @@ use std::alloc::Global;
 use tree_rows::{Below, Codes};
 use value_cells::{CellKind, Value};
 use value_rows::sums::object_in;
-
-/// What `new` gives: the object that the body returned, else the one that was made.
-fn kept(made: u32, value: Value) -> Value
-    ensures value { (table : List Code) (stmt : Spot → Stmt → Prog) (nu : Naming) → constructed table stmt (nu made) (val_in nu value) ≡ val_in nu result }
-    ensures needs { (n : ℕ) → made < n → needs value ≤ n → needs result ≤ n }
-{
-    match value {
-        Value::Object(cell) => Value::Object(cell),
-        _ => Value::Object(made),
-    }
-}
 
 /// A new object of a function of the script.
 fn construct_code<
@@ -69,38 +59,6 @@ fn construct_code<
     let made = host.make(CellKind::Plain(object_in(found)))?;
     let value = call_code(below, codes, host, number, around, Some(made), arguments)?;
     Ok(kept(made, value))
-}
-
-/// The error of `new` on what makes no objects, thrown.
-fn no_constructor<H: Host>(alloc: Global, host: &mut H) -> Exit
-    requires sound { H.is_sound host.old }
-    ensures did { Runs (λ nu. type_error (word "not a constructor")) (λ nu. told_exit nu result) (H.moment host.old) (H.moment host.new) }
-    ensures more { cells (H.moment host.old) ≤ cells (H.moment host.new) }
-    ensures thrown { exit_needs result ≤ cells (H.moment host.new) }
-    ensures sound { H.is_sound host.new }
-{
-    type_error_of(alloc, host, b"not a constructor")
-}
-
-/// A new object of a built-in function; String has none.
-fn construct_built_in<H: Host>(
-    alloc: Global,
-    host: &mut H,
-    which: u8,
-    arguments: &[Value],
-) -> Result<Value, Exit>
-    requires sound { H.is_sound host.old }
-    requires arguments { all_needs arguments.now ≤ cells (H.moment host.old) }
-    ensures ran { Runs (λ nu. if which == 12 then type_error (word "not a constructor") else call_built_in which Undefined (map (val_in nu) arguments.now)) (λ nu. told_value nu result) (H.moment host.old) (H.moment host.new) }
-    ensures more { cells (H.moment host.old) ≤ cells (H.moment host.new) }
-    ensures thrown { IfErr result (λ x. exit_needs x ≤ cells (H.moment host.new)) }
-    ensures sound { H.is_sound host.new }
-    ensures exists { IfOk result (λ v. needs v ≤ cells (H.moment host.new)) }
-{
-    if which == 12 {
-        return Err(no_constructor(alloc, host));
-    }
-    host.built_in(which, &Value::Undefined, arguments)
 }
 
 /// A new object of a value.

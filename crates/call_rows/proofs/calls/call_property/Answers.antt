@@ -1,4 +1,4 @@
-use Rattle.call_rows.proofs.Others.{no_member_call}
+use Rattle.call_steps.proofs.Others.{no_member_call}
 use Rattle.host_steps.proofs.Made.{runs_as}
 use Rattle.js_tree.specs.Calls.{call_found, call_method, call_property}
 use Rattle.js_tree.specs.Rows.{stmt_to}

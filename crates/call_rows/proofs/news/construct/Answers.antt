@@ -1,4 +1,4 @@
-use Rattle.call_rows.proofs.Others.{no_construct}
+use Rattle.call_steps.proofs.Others.{no_construct}
 use Rattle.host_steps.proofs.Made.{runs_as}
 use Rattle.js_tree.specs.Calls.{construct, construct_kind}
 use Rattle.js_tree.specs.Rows.{stmt_to}

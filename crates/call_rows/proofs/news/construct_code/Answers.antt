@@ -1,4 +1,4 @@
-use Rattle.call_rows.proofs.Others.{prototype_of}
+use Rattle.call_steps.proofs.Others.{prototype_of}
 use Rattle.host_steps.proofs.Made.{runs_as}
 use Rattle.js_tree.specs.Calls.{call_code, constructed, prototype_in}
 use Rattle.js_tree.specs.Rows.{stmt_to}

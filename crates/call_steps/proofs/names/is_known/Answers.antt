@@ -1,0 +1,4 @@
+use Rattle.call_steps.proofs.names.is_known.Goals as goal
+
+pub returns : goal.returns
+returns c = ?
