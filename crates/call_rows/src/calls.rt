@@ -57,7 +57,14 @@ fn run_code<
 {
     let frame = host.make(CellKind::Frame(Some(around)))?;
     add_parameters(below.alloc, host, frame, code.parameters, arguments)?;
-    enter(below.alloc, host, frame, code.parameters, code.body, code.variables.as_slice())?;
+    enter(
+        below.alloc,
+        host,
+        frame,
+        code.parameters,
+        code.body,
+        code.variables.as_slice(),
+    )?;
     let flow = below.list(codes, host, Here { frame, this }, code.body.statements())?;
     Ok(returned(flow))
 }

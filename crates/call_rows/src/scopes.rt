@@ -27,12 +27,7 @@ fn call_once<
     H: Host,
     E: Fn(Global, &Codes, u32, &mut H, Here, &Expr) -> Result<Value, Exit>,
     S: Fn(Global, &Codes, u32, &mut H, Here, &Stmt) -> Result<Flow, Exit>,
->(
-    below: &Below<H, E, S>,
-    codes: &Codes,
-    host: &mut H,
-    f: u32,
-) -> Result<Value, Exit>
+>(below: &Below<H, E, S>, codes: &Codes, host: &mut H, f: u32) -> Result<Value, Exit>
     requires below { Nests H H.moment H.is_sound (table_in codes.now) below.now.left (E.pre below.now.expr) (E.post below.now.expr) (S.pre below.now.stmt) (S.post below.now.stmt) }
     requires sound { H.is_sound host.old }
     requires f { f < cells (H.moment host.old) }
@@ -56,13 +51,7 @@ pub fn once<
     H: Host,
     E: Fn(Global, &Codes, u32, &mut H, Here, &Expr) -> Result<Value, Exit>,
     S: Fn(Global, &Codes, u32, &mut H, Here, &Stmt) -> Result<Flow, Exit>,
->(
-    below: &Below<H, E, S>,
-    codes: &Codes,
-    host: &mut H,
-    here: Here,
-    e: &Expr,
-) -> Result<Value, Exit>
+>(below: &Below<H, E, S>, codes: &Codes, host: &mut H, here: Here, e: &Expr) -> Result<Value, Exit>
     requires below { Nests H H.moment H.is_sound (table_in codes.now) below.now.left (E.pre below.now.expr) (E.post below.now.expr) (S.pre below.now.stmt) (S.post below.now.stmt) }
     requires sound { H.is_sound host.old }
     requires here { here_needs here ≤ cells (H.moment host.old) }
@@ -84,12 +73,7 @@ fn call_branch<
     H: Host,
     E: Fn(Global, &Codes, u32, &mut H, Here, &Expr) -> Result<Value, Exit>,
     S: Fn(Global, &Codes, u32, &mut H, Here, &Stmt) -> Result<Flow, Exit>,
->(
-    below: &Below<H, E, S>,
-    codes: &Codes,
-    host: &mut H,
-    f: u32,
-) -> Result<Value, Exit>
+>(below: &Below<H, E, S>, codes: &Codes, host: &mut H, f: u32) -> Result<Value, Exit>
     requires below { Nests H H.moment H.is_sound (table_in codes.now) below.now.left (E.pre below.now.expr) (E.post below.now.expr) (S.pre below.now.stmt) (S.post below.now.stmt) }
     requires sound { H.is_sound host.old }
     requires f { f < cells (H.moment host.old) }
@@ -110,13 +94,7 @@ pub fn fork<
     H: Host,
     E: Fn(Global, &Codes, u32, &mut H, Here, &Expr) -> Result<Value, Exit>,
     S: Fn(Global, &Codes, u32, &mut H, Here, &Stmt) -> Result<Flow, Exit>,
->(
-    below: &Below<H, E, S>,
-    codes: &Codes,
-    host: &mut H,
-    here: Here,
-    e: &Expr,
-) -> Result<Value, Exit>
+>(below: &Below<H, E, S>, codes: &Codes, host: &mut H, here: Here, e: &Expr) -> Result<Value, Exit>
     requires below { Nests H H.moment H.is_sound (table_in codes.now) below.now.left (E.pre below.now.expr) (E.post below.now.expr) (S.pre below.now.stmt) (S.post below.now.stmt) }
     requires sound { H.is_sound host.old }
     requires here { here_needs here ≤ cells (H.moment host.old) }

@@ -1,6 +1,6 @@
 -- The names of a frame, as loops add them.
-use Rattle.std.specs.Prelude.{Bool, true, false, ◌||◌, ◌&&◌, map, if◌then◌else◌}
-use Rattle.std.proofs.Common.{◌≡◌, ◌≤◌, ◌<◌, ◌+◌, ◌∙◌, ℕ, suc, List, [], ◌∷◌, ◌++◌, length, get_or, drop, take, refl, sym, ap, arith, nat_eq, add-one, drop-cons}
+use Rattle.std.specs.Prelude.{Result, Ok, Err, IfOk, Bool, true, false, ◌||◌, ◌&&◌, map, if◌then◌else◌}
+use Rattle.std.proofs.Common.{◌≡◌, ◌≤◌, ◌<◌, ◌+◌, ◌∙◌, ℕ, zero, suc, List, [], ◌∷◌, ◌++◌, length, get_or, drop, take, refl, sym, ap, subst, arith, nat_eq, add-one, drop-cons}
 use Rattle.std.proofs.lemmas.List.{take_more}
 use Rattle.std.proofs.lemmas.Bool.{false≢true}
 use Rattle.std.proofs.lemmas.Bool.Decides.{nat_tests}
@@ -11,9 +11,11 @@ use Rattle.turk_base.specs.Conversions.{same_units}
 use Rattle.turk_base.specs.Prog.{Prog, Declare, Ask}
 use Rattle.js_tree.specs.declared.Declaration.{Declaration}
 use Rattle.js_tree.specs.Trees.{declared_name, declared_body, number_of}
-use Rattle.js_tree.specs.Calls.{has, add_name, add_functions, add_variables}
+use Rattle.js_tree.specs.Calls.{has, head_value, tail_values, add_name, add_parameters, add_functions, add_variables}
 use Rattle.js_tree.specs.Pieces.{make_function}
-use Rattle.value_cells.specs.Seen.{Naming}
+use Rattle.value_cells.specs.declared.Value.{Value}
+use Rattle.value_cells.specs.Needs.{needs, all_needs}
+use Rattle.value_cells.specs.Seen.{Naming, val_in}
 use Rattle.run_host.specs.Moment.{Moment}
 use Rattle.run_host.specs.Steps.{Step, Leads, Leaves, Gives}
 use Rattle.run_host.proofs.Sequence.{leads_then, leads_out, gives_on, leaves_on}
@@ -23,7 +25,7 @@ use Rattle.call_steps.specs.Frames.{after}
 
 -- ---- which names a frame has
 
-or_false : (a : Bool) → a ≡ (a || false)
+pub or_false : (a : Bool) → a ≡ (a || false)
 or_false true = refl
 or_false false = refl
 
@@ -49,7 +51,66 @@ has_last (z ∷ xs) y x = ap (λ b. same_units z x || b) (has_last xs y x) ∙ o
     or_grouped true b c = refl
     or_grouped false b c = refl
 
+-- ---- parameters, the first i of them declared
+
+tail_from : (f : Value → Val) (vs : List Value) (i : ℕ) → tail_values (map f (drop i vs)) ≡ map f (drop (suc i) vs)
+tail_from f [] zero = refl
+tail_from f [] (suc i) = refl
+tail_from f (v ∷ vs) zero = refl
+tail_from f (v ∷ vs) (suc i) = tail_from f vs i
+
+pub needs_at : (vs : List Value) (i : ℕ) (v : Value) → i < length vs → v ≡ get_or vs i v → needs v ≤ all_needs vs
+needs_at [] i v h e = absurd (omega (arith, h))
+needs_at (w ∷ vs) zero v h e = let q : needs v ≡ needs w = ap needs e in omega (arith, q)
+needs_at (w ∷ vs) (suc i) v h e = let r = needs_at vs i v (omega (arith, h)) e in omega (arith, r)
+
+pub copied_needs : {E : Type 0} (r : Result Value E) (v : Value) (n : ℕ) → IfOk r (λ c. c ≡ v) → needs v ≤ n → IfOk r (λ c. needs c ≤ n)
+copied_needs (Ok c) v n e h = let q : needs c ≡ needs v = ap needs e in omega (arith, q, h)
+copied_needs (Err x) v n e h = tt
+
+pub argument_there : (nu : Naming) (vs : List Value) (i : ℕ) (v : Value) → i < length vs → v ≡ get_or vs i v → head_value (map (val_in nu) (drop i vs)) ≡ val_in nu v
+argument_there nu vs i v h e = ap (λ ws. head_value (map (val_in nu) ws)) (drop-cons vs i v h) ∙ ap (val_in nu) (sym e)
+
+pub argument_past : (nu : Naming) (vs : List Value) (i : ℕ) → length vs ≤ i → head_value (map (val_in nu) (drop i vs)) ≡ Undefined
+argument_past nu vs i h = ap (λ ws. head_value (map (val_in nu) ws)) (drop_of_length-le vs h)
+
+module _ (at : Naming → Name) (all : List Units) (vs : List Value) (i : ℕ) where
+  abbrev pub parameters_from : Naming → Step (Unit {0})
+  parameters_from nu go = add_parameters (at nu) (drop i all) (map (val_in nu) (drop i vs)) go
+
+  abbrev pub parameters_next : Naming → Step (Unit {0})
+  parameters_next nu go = add_parameters (at nu) (drop (i + 1) all) (map (val_in nu) (drop (i + 1) vs)) go
+
+  -- one parameter, where these are the later ones
+  abbrev pub step_before : List Units → Units → Naming → Step (Unit {0})
+  step_before later x nu go = if has later x then go tt else Ask (Declare (at nu) x (head_value (map (val_in nu) (drop i vs)))) (λ _. go tt)
+
+  abbrev parameter_step : Units → Naming → Step (Unit {0})
+  parameter_step x = step_before (drop (i + 1) all) x
+
+  parameter_at : (x : Units) → i < length all → x ≡ get_or all i x → (nu : Naming) (go : Unit {0} → Prog) → parameters_from nu go ≡ parameter_step x nu (λ _. parameters_next nu go)
+  parameter_at x h q nu go = ap (λ xs. add_parameters (at nu) xs (map (val_in nu) (drop i vs)) go) (drop-cons all i x h)
+      ∙ (λ j. add_parameters (at nu) (sym q j ∷ drop (sym (add-one i) j) all) (map (val_in nu) (drop i vs)) go)
+      ∙ ap (λ ws. parameter_step x nu (λ _. add_parameters (at nu) (drop (i + 1) all) ws go)) (tail_from (val_in nu) vs i ∙ ap (λ k. map (val_in nu) (drop k vs)) (sym (add-one i)))
+
+  pub parameters_goes : (x : Units) (later : List Units) {a b c : Moment} {whole : Naming → Step (Unit {0})} → i < length all → x ≡ get_or all i x → later ≡ drop (i + 1) all → Leads whole parameters_from a b →
+      Gives (step_before later x) (λ nu. tt) b c → Leads whole parameters_next a c
+  parameters_goes x later {b = b} {c = c} h q e rest ran = leads_then rest (leads_then (leads_eq (parameter_at x h q)) (gives_on (subst (λ l. Gives (step_before l x) (λ nu. tt) b c) e ran) (λ nu _. parameters_next nu)))
+
+  pub parameters_out : (x : Units) (later : List Units) (y : Exit) {a b c : Moment} {whole : Naming → Step (Unit {0})} → i < length all → x ≡ get_or all i x → later ≡ drop (i + 1) all → Leads whole parameters_from a b →
+      Leaves (step_before later x) y b c → Leaves whole y a c
+  parameters_out x later y {b = b} {c = c} h q e rest ran = leads_out rest (leads_out (leads_eq (parameter_at x h q)) (leaves_on (subst (λ l. Leaves (step_before l x) y b c) e ran) (λ nu _. parameters_next nu)))
+
+  pub parameters_over : {a b : Moment} {whole : Naming → Step (Unit {0})} → length all ≤ i → Leads whole parameters_from a b → Gives whole (λ nu. tt) a b
+  parameters_over h rest = leads_then rest (leads_eq (λ nu go. ap (λ xs. add_parameters (at nu) xs (map (val_in nu) (drop i vs)) go) (drop_of_length-le all h)))
+
 -- ---- functions, the first i of them declared
+
+take_over : {A : Type 0} (xs : List A) (i : ℕ) → length xs ≤ i → take i xs ≡ xs
+take_over [] zero h = refl
+take_over [] (suc i) h = refl
+take_over (x ∷ xs) zero h = absurd (omega (arith, h))
+take_over (x ∷ xs) (suc i) h = ap (λ l. x ∷ l) (take_over xs i (omega (arith, h)))
 
 module _ (at : Naming → Name) (ps : List Units) (all : List Declaration) (i : ℕ) where
   -- the names that the frame has
@@ -79,8 +140,8 @@ module _ (at : Naming → Name) (ps : List Units) (all : List Declaration) (i : 
       Leads whole functions_from a b → Leaves (function_step d known) x b c → Leaves whole x a c
   functions_out d known x h q k rest ran = leads_out rest (leads_out (leads_eq (function_at d known h q k)) (leaves_on ran (λ nu _. functions_next d nu)))
 
-  pub functions_over : {a b : Moment} {whole : Naming → Step (List Units)} → length all ≤ i → Leads whole functions_from a b → Gives whole (λ nu. so_far) a b
-  functions_over h rest = leads_then rest (leads_eq (λ nu go. ap (λ ds. add_functions (at nu) so_far ds go) (drop_of_length-le all h)))
+  pub functions_over : {a b : Moment} {whole : Naming → Step (List Units)} → length all ≤ i → Leads whole functions_from a b → Gives whole (λ nu. after ps all) a b
+  functions_over h rest = leads_then rest (leads_eq (λ nu go. ap (λ ds. add_functions (at nu) so_far ds go) (drop_of_length-le all h) ∙ ap (λ ds. go (after ps ds)) (take_over all i h)))
 
 pub functions_more : (at : Naming → Name) (ps : List Units) (all : List Declaration) (i : ℕ) (d : Declaration) {a b : Moment} {whole : Naming → Step (List Units)} → i < length all → d ≡ get_or all i d →
     Leads whole (functions_next at ps all i d) a b → Leads whole (functions_from at ps all (i + 1)) a b
@@ -131,11 +192,11 @@ units_same : (x y : Units) → same_units x y ≡ true → x ≡ y
 units_same [] [] e = refl
 units_same [] (b ∷ y) e = absurd (false≢true e)
 units_same (a ∷ x) [] e = absurd (false≢true e)
-units_same (a ∷ x) (b ∷ y) e = by (nat_eq a b) refl e
+units_same (a ∷ x) (b ∷ y) e = first_same (nat_eq a b) refl e (units_same x y)
   where
-    by : (c : Bool) → nat_eq a b ≡ c → (c && same_units x y) ≡ true → a ∷ x ≡ b ∷ y
-    by true f g = let p : a ≡ b = grind (arith, nat_tests) in (λ i. p i ∷ units_same x y g i)
-    by false f g = absurd (false≢true g)
+    first_same : (c : Bool) → nat_eq a b ≡ c → (c && same_units x y) ≡ true → (same_units x y ≡ true → x ≡ y) → a ∷ x ≡ b ∷ y
+    first_same true f g others = let p : a ≡ b = grind (arith, nat_tests) in λ i. p i ∷ others g i
+    first_same false f g others = absurd (false≢true g)
 
 all_true : (b t : Bool) → true ≡ (b || (t || true))
 all_true true t = refl

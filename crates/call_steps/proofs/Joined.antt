@@ -1,5 +1,5 @@
 -- The texts of values, joined.
-use Rattle.std.proofs.Common.{◌≡◌, ◌≤◌, ◌<◌, ◌+◌, ◌∙◌, ℕ, List, [], ◌∷◌, ◌++◌, append_assoc, length, get_or, drop, refl, sym, ap, add-one, drop-cons}
+use Rattle.std.proofs.Common.{◌≡◌, ◌≤◌, ◌<◌, ◌+◌, ◌∙◌, ℕ, List, [], ◌∷◌, ◌++◌, append_assoc, length, get_or, drop, refl, sym, ap, arith, add-one, drop-cons}
 use Rattle.std.specs.Prelude.{map}
 use Rattle.std.proofs.Math.ListN.{drop_of_length-le}
 use Rattle.turk_base.specs.Names.{Units}
@@ -28,6 +28,14 @@ line_begins v (w ∷ vs) go = λ i. text_from v (λ s. (line_begins w vs (λ t. 
   where
     after : (s u : Units) → line_from u vs (λ t. go (s ++ 32 ∷ t)) ≡ line_from (s ++ 32 ∷ u) vs go
     after s u = (λ j. line_from u vs (λ t. go (sym (append_assoc s (32 ∷ []) t) j))) ∙ line_before (s ++ 32 ∷ []) u vs go ∙ ap (λ l. line_from l vs go) (append_assoc s (32 ∷ []) u)
+
+pub line_starts : (vs : List Value) (v : Value) → 0 < length vs → v ≡ get_or vs 0 v → (nu : Naming) (go : Units → Prog) → line_of (map (val_in nu) vs) go ≡ text_from (val_in nu v) (λ s. line_from s (map (val_in nu) (drop 1 vs)) go)
+line_starts [] v h e nu go = absurd (omega (arith, h))
+line_starts (w ∷ vs) v h e nu go = line_begins (val_in nu w) (map (val_in nu) vs) go ∙ (λ i. text_from (val_in nu (sym e i)) (λ s. line_from s (map (val_in nu) vs) go))
+
+pub line_empty : (vs : List Value) → length vs ≡ 0 → (nu : Naming) (t : Units) → t ≡ [] → (go : Units → Prog) → line_of (map (val_in nu) vs) go ≡ go t
+line_empty [] h nu t e go = ap go (sym e)
+line_empty (v ∷ vs) h nu t e go = absurd (omega (arith, h))
 
 -- values from the place i on, in a loop of the code
 module _ (all : List Value) (i : ℕ) (line : Units) where

@@ -1,5 +1,5 @@
 //! The line that `print` writes (own rules).
-ghost use Rattle.std.specs.Prelude.{◌≡◌, ◌≤◌, IfOk, IfErr, map, ◌++◌, ◌∷◌};
+ghost use Rattle.std.specs.Prelude.{◌≡◌, ◌<◌, ◌≤◌, length, drop, IfOk, IfErr, map, ◌++◌, ◌∷◌};
 ghost use Rattle.js_tree.specs.ScriptCalls as calls;
 ghost use Rattle.value_cells.specs.Seen.{val_in};
 ghost use Rattle.run_host.specs.Moment.{cells};
@@ -42,6 +42,14 @@ fn rest_of_line<H: Host>(
     Ok(line)
 }
 
+/// The values after the first.
+fn after_first(values: &[Value]) -> &[Value]
+    requires { 0 < length values.now }
+    ensures { result.now ≡ drop 1 values.now }
+{
+    &values[1..]
+}
+
 /// The texts of values, joined by a space; each is paid where it is made.
 pub fn line_of<H: Host>(alloc: Global, host: &mut H, values: &[Value]) -> Result<Units, Exit>
     requires sound { H.is_sound host.old }
@@ -50,11 +58,9 @@ pub fn line_of<H: Host>(alloc: Global, host: &mut H, values: &[Value]) -> Result
     ensures thrown { IfErr result (λ x. exit_needs x ≤ cells (H.moment host.new)) }
     ensures sound { H.is_sound host.new }
 {
-    match values {
-        [] => Ok(Units::new(alloc)),
-        [first, others @ ..] => {
-            let text = text_of(alloc, host, first)?;
-            rest_of_line(alloc, host, text, others)
-        }
+    if values.len() == 0 {
+        return Ok(Units::new(alloc));
     }
+    let text = text_of(alloc, host, &values[0])?;
+    rest_of_line(alloc, host, text, after_first(values))
 }

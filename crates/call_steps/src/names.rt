@@ -1,10 +1,10 @@
 //! The names of a frame (ECMA-262 3rd ed. 10.1.3): parameters, functions, variables.
-ghost use Rattle.std.specs.Prelude.{◌≡◌, ◌<◌, ◌≤◌, IfOk, IfErr, map, if◌then◌else◌};
+ghost use Rattle.std.specs.Prelude.{◌≡◌, ◌<◌, ◌≤◌, ◌+◌, length, IfOk, IfErr, map, drop, ◌||◌, if◌then◌else◌};
 ghost use Rattle.turk_base.specs.Prog.{Declare, Ask};
 ghost use Rattle.turk_base.specs.Values.{Object, Undefined};
 ghost use Rattle.js_tree.specs.Trees.{declared_name, declared_body, number_of, functions_of, statements_of};
 ghost use Rattle.js_tree.specs.Calls as calls;
-ghost use Rattle.js_tree.specs.Calls.{has, head_value, tail_values, add_name};
+ghost use Rattle.js_tree.specs.Calls.{has, head_value, add_name};
 ghost use Rattle.js_tree.specs.Pieces.{make_function};
 ghost use Rattle.value_cells.specs.Needs.{needs, all_needs};
 ghost use Rattle.value_cells.specs.Seen.{Naming, val_in};
@@ -64,25 +64,27 @@ fn is_known(parameters: &[Units], functions: &[Declaration], name: &Units) -> bo
     is_among(parameters, name) || is_declared(functions, name)
 }
 
-/// The first argument, undefined where none is left.
-fn first_of(alloc: Global, arguments: &[Value]) -> Result<Value, NoMemory>
-    ensures value { IfOk result (λ v. (nu : Naming) → head_value (map (val_in nu) arguments.now) ≡ val_in nu v) }
-    ensures needs { IfOk result (λ v. needs v ≤ all_needs arguments.now) }
+/// Whether a frame has a name after these variables were declared too.
+fn is_there(
+    parameters: &[Units],
+    functions: &[Declaration],
+    variables: &[Units],
+    name: &Units,
+) -> bool
+    ensures { (has (after parameters.now functions.now) name.now || has variables.now name.now) ≡ result }
 {
-    match arguments {
-        [] => Ok(Value::Undefined),
-        [first, ..] => first.copy(alloc),
-    }
+    is_known(parameters, functions, name) || is_among(variables, name)
 }
 
-/// The arguments after the first.
-fn others_of(arguments: &[Value]) -> &[Value]
-    ensures values { (nu : Naming) → tail_values (map (val_in nu) arguments.now) ≡ map (val_in nu) result.now }
-    ensures needs { all_needs result.now ≤ all_needs arguments.now }
+/// The argument at a place, undefined where there is none.
+fn argument_at(alloc: Global, arguments: &[Value], i: usize) -> Result<Value, NoMemory>
+    ensures value { IfOk result (λ v. (nu : Naming) → head_value (map (val_in nu) (drop i arguments.now)) ≡ val_in nu v) }
+    ensures needs { IfOk result (λ v. needs v ≤ all_needs arguments.now) }
 {
-    match arguments {
-        [] => arguments,
-        [_, others @ ..] => others,
+    if i < arguments.len() {
+        arguments[i].copy(alloc)
+    } else {
+        Ok(Value::Undefined)
     }
 }
 
@@ -94,11 +96,12 @@ fn add_parameter<H: Host>(
     name: &Units,
     later: &[Units],
     arguments: &[Value],
+    i: usize,
 ) -> Result<(), Exit>
     requires sound { H.is_sound host.old }
     requires frame { frame < cells (H.moment host.old) }
     requires arguments { all_needs arguments.now ≤ cells (H.moment host.old) }
-    ensures did { Takes (λ nu go. if has later.now name.now then go tt else Ask (Declare (nu frame) name.now (head_value (map (val_in nu) arguments.now))) (λ _. go tt)) (λ nu u. u) result (H.moment host.old) (H.moment host.new) }
+    ensures did { Takes (λ nu go. if has later.now name.now then go tt else Ask (Declare (nu frame) name.now (head_value (map (val_in nu) (drop i arguments.now)))) (λ _. go tt)) (λ nu u. u) result (H.moment host.old) (H.moment host.new) }
     ensures more { cells (H.moment host.old) ≤ cells (H.moment host.new) }
     ensures thrown { IfErr result (λ x. exit_needs x ≤ cells (H.moment host.new)) }
     ensures sound { H.is_sound host.new }
@@ -106,8 +109,16 @@ fn add_parameter<H: Host>(
     if is_among(later, name) {
         return Ok(());
     }
-    let value = first_of(alloc, arguments)?;
+    let value = argument_at(alloc, arguments, i)?;
     host.declare(frame, name, value)
+}
+
+/// The names after a place.
+fn names_after(names: &[Units], i: usize) -> &[Units]
+    requires { i < length names.now }
+    ensures { result.now ≡ drop (i + 1) names.now }
+{
+    &names[i + 1..]
 }
 
 /// The parameters of a frame with their arguments.
@@ -126,18 +137,11 @@ pub fn add_parameters<H: Host>(
     ensures thrown { IfErr result (λ x. exit_needs x ≤ cells (H.moment host.new)) }
     ensures sound { H.is_sound host.new }
 {
-    let mut names = parameters;
-    let mut values = arguments;
-    loop {
-        match names {
-            [] => return Ok(()),
-            [name, later @ ..] => {
-                add_parameter(alloc, host, frame, name, later, values)?;
-                names = later;
-                values = others_of(values);
-            }
-        }
+    for i in 0..parameters.len() {
+        let later = names_after(parameters, i);
+        add_parameter(alloc, host, frame, &parameters[i], later, arguments, i)?;
     }
+    Ok(())
 }
 
 /// A function that is declared: it is made, and then its name is set, or added to the frame.
@@ -179,8 +183,9 @@ fn add_functions<H: Host>(
     ensures sound { H.is_sound host.new }
 {
     for i in 0..functions.len() {
-        let known = is_known(parameters, &functions[..i], functions[i].name());
-        add_function(alloc, host, frame, &functions[i], known)?;
+        let function = &functions[i];
+        let known = is_known(parameters, &functions[..i], function.name());
+        add_function(alloc, host, frame, function, known)?;
     }
     Ok(())
 }
@@ -218,7 +223,7 @@ fn add_variables<H: Host>(
 {
     for i in 0..variables.len() {
         let name = &variables[i];
-        let known = is_known(parameters, functions, name) || is_among(&variables[..i], name);
+        let known = is_there(parameters, functions, &variables[..i], name);
         add_variable(host, frame, name, known)?;
     }
     Ok(())

@@ -50,13 +50,7 @@ pub fn type_name<
     H: Host,
     E: Fn(Global, &Codes, u32, &mut H, Here, &Expr) -> Result<Value, Exit>,
     S: Fn(Global, &Codes, u32, &mut H, Here, &Stmt) -> Result<Flow, Exit>,
->(
-    below: &Below<H, E, S>,
-    codes: &Codes,
-    host: &mut H,
-    here: Here,
-    e: &Expr,
-) -> Result<Value, Exit>
+>(below: &Below<H, E, S>, codes: &Codes, host: &mut H, here: Here, e: &Expr) -> Result<Value, Exit>
     requires below { Nests H H.moment H.is_sound (table_in codes.now) below.now.left (E.pre below.now.expr) (E.post below.now.expr) (S.pre below.now.stmt) (S.post below.now.stmt) }
     requires sound { H.is_sound host.old }
     requires here { here_needs here ≤ cells (H.moment host.old) }

@@ -12,7 +12,7 @@ invariant-loop-value g l =
     let old = g.H.Host.moment l.fn.host in
     let now = g.H.Host.moment l.host in
     record {
-      rest : Leads (λ nu. line_from l.first (map (val_in nu) l.values)) (line_at l.values l.value-index l.line) old now;
+      rest : Leads (λ nu. line_from l.fn.first (map (val_in nu) l.values)) (line_at l.values l.value-index l.line) old now;
       more : cells old ≤ cells now;
       sound : g.H.Host.is_sound l.host;
     }
