@@ -57,14 +57,7 @@ fn run_code<
 {
     let frame = host.make(CellKind::Frame(Some(around)))?;
     add_parameters(below.alloc, host, frame, code.parameters, arguments)?;
-    enter(
-        below.alloc,
-        host,
-        frame,
-        code.parameters,
-        code.body,
-        code.variables.as_slice(),
-    )?;
+    enter(below.alloc, host, frame, code.parameters, code.body, code.variables.as_slice())?;
     let flow = below.list(codes, host, Here { frame, this }, code.body.statements())?;
     Ok(returned(flow))
 }
@@ -94,9 +87,11 @@ pub fn call_code<
     ensures sound { H.is_sound host.new }
     ensures exists { IfOk result (λ v. needs v ≤ cells (H.moment host.new)) }
 {
-    match codes.all.get(number as usize) {
-        Some(code) => run_code(below, codes, host, code, around, this, arguments),
-        None => Ok(Value::Undefined),
+    let at = number as usize;
+    if at < codes.all.len() {
+        run_code(below, codes, host, &codes.all[at], around, this, arguments)
+    } else {
+        Ok(Value::Undefined)
     }
 }
 

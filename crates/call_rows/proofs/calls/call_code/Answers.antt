@@ -1,7 +1,4 @@
 use Rattle.call_rows.proofs.calls.call_code.Goals as goal
 
-pub returns-in-Some-clause-ran : goal.returns-in-Some-clause-ran
-returns-in-Some-clause-ran g c = ?
-
-pub returns-in-None-clause-ran : goal.returns-in-None-clause-ran
-returns-in-None-clause-ran g c = ?
+pub returns-then-at-codes-clause-ran : goal.returns-then-at-codes-clause-ran
+returns-then-at-codes-clause-ran g c = ?
