@@ -1,5 +1,5 @@
 //! The rows of calls, `new`, `print`, `once` and `fork`, over a host and over what runs the nodes below.
-#![tactic(none)]
+#![tactic(auto)]
 
 pub mod calls;
 pub mod news;

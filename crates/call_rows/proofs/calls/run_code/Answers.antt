@@ -5,13 +5,16 @@ use Rattle.js_tree.specs.Trees.{statements_of}
 use Rattle.run_host.proofs.Exits.{always_done, always_exit, value_exit}
 use Rattle.run_host.proofs.Fits.{runs_left, runs_on}
 use Rattle.run_host.specs.Told.{here_in, this_in}
-use Rattle.std.proofs.Common.{ap, refl, sym}
+use Rattle.std.proofs.Common.{ap, refl, sym, ◌∙◌}
 use Rattle.std.specs.Prelude.{map}
 use Rattle.tree_rows.specs.Codes.{table_in}
 use Rattle.turk_base.specs.Names.{Name}
 use Rattle.turk_base.specs.Prog.{Always, Prog}
 use Rattle.value_cells.specs.Seen.{Naming, val_in}
 use Rattle.call_rows.proofs.calls.run_code.Goals as goal
+
+pub enter-requires-clause-hoisted : goal.enter-requires-clause-hoisted
+enter-requires-clause-hoisted g c = c.as_slice.ensures.value ∙ c.args.code.now.hoisted
 
 pub returns-in_err-frame-clause-ran : goal.returns-in_err-frame-clause-ran
 returns-in_err-frame-clause-ran g c = let t = table_in c.args.codes.now in let s = stmt_to t c.args.below.now.left in let ps = c.args.code.now.parameters.now in let b = c.args.code.now.body.now in let body : Naming → Name → Prog = λ nu f. Always (list t s (record { frame = f; this = this_in nu c.args.this }) (statements_of b)) called in let first : Naming → Name → Prog = λ nu f. add_parameters f ps (map (val_in nu) c.args.arguments.now) (λ _. enter f ps b (λ _. body nu f)) in 
