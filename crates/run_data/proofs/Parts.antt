@@ -1,7 +1,7 @@
 -- The parts of plain data, one after another.
 use Rattle.std.proofs.Common.{◌≡◌, refl, ap, sym, ◌∙◌, subst, ℕ, zero, suc, ◌<◌, ◌≤◌, max, List, [], ◌∷◌, length, Some, slice_get, get_or, drop, map, arith}
 use Rattle.std.proofs.lemmas.Option.{slice_get-get_or}
-use Rattle.turk_base.specs.Data.{Data, Items, Item, Fields, Field, items_of, fields_of, nesting, nesting_items, nesting_fields}
+use Rattle.turk_base.specs.Data.{Data, DList, DFields, Items, Item, Fields, Field, items_of, fields_of, nesting, nesting_items, nesting_fields}
 use Rattle.value_cells.specs.declared.Value.{Value}
 use Rattle.value_cells.specs.Needs.{needs, all_needs}
 use Rattle.run_data.specs.Short.{many, IsShort, AreItemsShort, AreFieldsShort}
@@ -42,3 +42,19 @@ pub needs_at : (vs : List Value) (i : ℕ) (v : Value) → slice_get vs i ≡ So
 needs_at [] i v e = cc
 needs_at (w ∷ vs) zero v e = let q : w ≡ v = cc in omega (arith, ap needs q)
 needs_at (w ∷ vs) (suc i) v e = let h = needs_at vs i v e in omega (arith, h)
+
+pub list_short : (ds : List Data) → IsShort (DList (items_of ds)) → (length ds ≤ 1000000) × AreItemsShort (items_of ds)
+unfolding IsShort
+list_short ds h = (omega (arith, h.0, many_items ds), h.1)
+
+pub list_deep : (ds : List Data) (left : ℕ) → nesting (DList (items_of ds)) ≤ left → nesting_items (items_of ds) < left
+unfolding nesting
+list_deep ds left h = omega (arith, h)
+
+pub plain_short : (fs : List (List ℕ × Data)) → IsShort (DFields (fields_of fs)) → AreFieldsShort (fields_of fs)
+unfolding IsShort
+plain_short fs h = h
+
+pub plain_deep : (fs : List (List ℕ × Data)) (left : ℕ) → nesting (DFields (fields_of fs)) ≤ left → nesting_fields (fields_of fs) < left
+unfolding nesting
+plain_deep fs left h = omega (arith, h)

@@ -1,5 +1,5 @@
 -- Data put, from the steps that the code did.
-use Rattle.std.proofs.Common.{◌≡◌, refl, ap, sym, ◌∙◌, subst, ℕ, zero, suc, ◌+◌, ◌<◌, ◌≤◌, max, List, [], ◌∷◌, length, Some, slice_get, get_or, drop, arith, decimal}
+use Rattle.std.proofs.Common.{◌≡◌, true, false, refl, ap, sym, ◌∙◌, subst, ℕ, zero, suc, ◌+◌, ◌<◌, ◌≤◌, max, List, [], ◌∷◌, length, Some, slice_get, get_or, drop, arith, decimal}
 use Rattle.std.specs.Prelude.{Result, Ok, Err}
 use Rattle.std.specs.Result.{IsErrAnd}
 use Rattle.std.proofs.lemmas.Option.{slice_get_read}
@@ -30,56 +30,56 @@ failed g f (Err e) s t h x = subst (λ e. Works g (λ nu. told_stop e) s t) (sym
 
 -- ---- an element
 
-unit_ends : (g : Naming → Small (Unit {0})) (r : Result (Unit {0}) OpStop) (s t : Core) → Works g (λ nu. told (λ u. u) r) s t → Works (λ nu. bind (g nu) (λ _. give tt)) (λ nu. told (λ u. u) r) s t
-unit_ends g (Ok u) s t x = works_then g (λ nu. u) (λ nu _. give tt) (λ nu. Says tt) s t t x (works_give (λ nu. tt) t)
-unit_ends g (Err e) s t x = works_out g (λ nu _. give tt) e s t x
+unit_ends : (g : Naming → Small (Unit {0})) (r : Result (Unit {0}) OpStop) (s t : Core) → Works g (λ nu. told (λ u. u) r) s t → Works (λ nu. bind (g nu) (λ _. give (tt {0}))) (λ nu. told (λ u. u) r) s t
+unit_ends g (Ok u) s t x = works_then g (λ nu. u) (λ nu _. give (tt {0})) (λ nu. Says tt) s t t x (works_give (λ nu. tt) t)
+unit_ends g (Err e) s t x = works_out g (λ nu _. give (tt {0})) e s t x
 
 module _ (i at : ℕ) (v : Value) where
   pub element_ends : (r : Result (Unit {0}) OpStop) (s t u : Core) → Works (λ nu. step (change false (nu i) (put (decimal at) (val_in nu v))) give) (λ nu. Says tt) s t
-      → Works (λ nu. step (change false (nu i) (grow at)) give) (λ nu. told (λ u. u) r) t u → Works (λ nu. element false (nu i) at (val_in nu v) (give tt)) (λ nu. told (λ u. u) r) s u
+      → Works (λ nu. step (change false (nu i) (grow at)) give) (λ nu. told (λ u. u) r) t u → Works (λ nu. element false (nu i) at (val_in nu v) (give (tt {0}))) (λ nu. told (λ u. u) r) s u
   element_ends r s t u x y =
-      works_then (λ nu. step (change false (nu i) (put (decimal at) (val_in nu v))) give) (λ nu. tt) (λ nu _. step (change false (nu i) (grow at)) (λ _. give tt)) (λ nu. told (λ u. u) r) s t u x
+      works_then (λ nu. step (change false (nu i) (put (decimal at) (val_in nu v))) give) (λ nu. tt) (λ nu _. step (change false (nu i) (grow at)) (λ _. give (tt {0}))) (λ nu. told (λ u. u) r) s t u x
       (unit_ends (λ nu. step (change false (nu i) (grow at)) give) r t u y)
 
-  pub element_out : (e : OpStop) (s t : Core) → Works (λ nu. step (change false (nu i) (put (decimal at) (val_in nu v))) give) (λ nu. told_stop e) s t → Works (λ nu. element false (nu i) at (val_in nu v) (give tt)) (λ nu. told_stop e) s t
-  element_out e s t x = works_out (λ nu. step (change false (nu i) (put (decimal at) (val_in nu v))) give) (λ nu _. step (change false (nu i) (grow at)) (λ _. give tt)) e s t x
+  pub element_out : (e : OpStop) (s t : Core) → Works (λ nu. step (change false (nu i) (put (decimal at) (val_in nu v))) give) (λ nu. told_stop e) s t → Works (λ nu. element false (nu i) at (val_in nu v) (give (tt {0}))) (λ nu. told_stop e) s t
+  element_out e s t x = works_out (λ nu. step (change false (nu i) (put (decimal at) (val_in nu v))) give) (λ nu _. step (change false (nu i) (grow at)) (λ _. give (tt {0}))) e s t x
 
 -- ---- an element that is paid, and those after it
 
 module _ (i at : ℕ) (v : Value) where
   pub paid_ends : (r : Result (Unit {0}) OpStop) (s t u : Core) → Works (λ nu. step (change true (nu i) (put (decimal at) (val_in nu v))) give) (λ nu. Says tt) s t
-      → Works (λ nu. step (change true (nu i) (grow at)) give) (λ nu. told (λ u. u) r) t u → Works (λ nu. element true (nu i) at (val_in nu v) (give tt)) (λ nu. told (λ u. u) r) s u
+      → Works (λ nu. step (change true (nu i) (grow at)) give) (λ nu. told (λ u. u) r) t u → Works (λ nu. element true (nu i) at (val_in nu v) (give (tt {0}))) (λ nu. told (λ u. u) r) s u
   paid_ends r s t u x y =
-      works_then (λ nu. step (change true (nu i) (put (decimal at) (val_in nu v))) give) (λ nu. tt) (λ nu _. step (change true (nu i) (grow at)) (λ _. give tt)) (λ nu. told (λ u. u) r) s t u x
+      works_then (λ nu. step (change true (nu i) (put (decimal at) (val_in nu v))) give) (λ nu. tt) (λ nu _. step (change true (nu i) (grow at)) (λ _. give (tt {0}))) (λ nu. told (λ u. u) r) s t u x
       (unit_ends (λ nu. step (change true (nu i) (grow at)) give) r t u y)
 
-  pub paid_out : (e : OpStop) (s t : Core) → Works (λ nu. step (change true (nu i) (put (decimal at) (val_in nu v))) give) (λ nu. told_stop e) s t → Works (λ nu. element true (nu i) at (val_in nu v) (give tt)) (λ nu. told_stop e) s t
-  paid_out e s t x = works_out (λ nu. step (change true (nu i) (put (decimal at) (val_in nu v))) give) (λ nu _. step (change true (nu i) (grow at)) (λ _. give tt)) e s t x
+  pub paid_out : (e : OpStop) (s t : Core) → Works (λ nu. step (change true (nu i) (put (decimal at) (val_in nu v))) give) (λ nu. told_stop e) s t → Works (λ nu. element true (nu i) at (val_in nu v) (give (tt {0}))) (λ nu. told_stop e) s t
+  paid_out e s t x = works_out (λ nu. step (change true (nu i) (put (decimal at) (val_in nu v))) give) (λ nu _. step (change true (nu i) (grow at)) (λ _. give (tt {0}))) e s t x
 
-  pub fill_on : (vs : Naming → List Val) (said : Naming → Told Val) (s t last : Core) → Works (λ nu. element true (nu i) at (val_in nu v) (give tt)) (λ nu. Says tt) s t → Works (λ nu. fill (nu i) (suc at) (vs nu)) said t last
+  pub fill_on : (vs : Naming → List Val) (said : Naming → Told Val) (s t last : Core) → Works (λ nu. element true (nu i) at (val_in nu v) (give (tt {0}))) (λ nu. Says tt) s t → Works (λ nu. fill (nu i) (suc at) (vs nu)) said t last
       → Works (λ nu. fill (nu i) at (val_in nu v ∷ vs nu)) said s last
-  fill_on vs said s t last x y = works_then (λ nu. element true (nu i) at (val_in nu v) (give tt)) (λ nu. tt) (λ nu _. fill (nu i) (suc at) (vs nu)) said s t last x y
+  fill_on vs said s t last x y = works_then (λ nu. element true (nu i) at (val_in nu v) (give (tt {0}))) (λ nu. tt) (λ nu _. fill (nu i) (suc at) (vs nu)) said s t last x y
 
-  pub fill_out : (vs : Naming → List Val) (e : OpStop) (s t : Core) → Works (λ nu. element true (nu i) at (val_in nu v) (give tt)) (λ nu. told_stop e) s t → Works (λ nu. fill (nu i) at (val_in nu v ∷ vs nu)) (λ nu. told_stop e) s t
-  fill_out vs e s t x = works_out (λ nu. element true (nu i) at (val_in nu v) (give tt)) (λ nu _. fill (nu i) (suc at) (vs nu)) e s t x
+  pub fill_out : (vs : Naming → List Val) (e : OpStop) (s t : Core) → Works (λ nu. element true (nu i) at (val_in nu v) (give (tt {0}))) (λ nu. told_stop e) s t → Works (λ nu. fill (nu i) at (val_in nu v ∷ vs nu)) (λ nu. told_stop e) s t
+  fill_out vs e s t x = works_out (λ nu. element true (nu i) at (val_in nu v) (give (tt {0}))) (λ nu _. fill (nu i) (suc at) (vs nu)) e s t x
 
 -- ---- items
 
 module _ (i at : ℕ) (d : Data) (ds : Items) where
-  pub items_on : (v : Value) (said : Naming → Told Val) (s t u last : Core) → Works (λ nu. put_data d) (λ nu. Says (val_in nu v)) s t → Works (λ nu. element false (nu i) at (val_in nu v) (give tt)) (λ nu. Says tt) t u
+  pub items_on : (v : Value) (said : Naming → Told Val) (s t u last : Core) → Works (λ nu. put_data d) (λ nu. Says (val_in nu v)) s t → Works (λ nu. element false (nu i) at (val_in nu v) (give (tt {0}))) (λ nu. Says tt) t u
       → Works (λ nu. put_items (nu i) (suc at) ds) said u last → Works (λ nu. put_items (nu i) at (Item d ds)) said s last
   items_on v said s t u last x y z =
       works_then (λ nu. put_data d) (λ nu. val_in nu v) (λ nu v. element false (nu i) at v (put_items (nu i) (suc at) ds)) said s t last x
-      (works_then (λ nu. element false (nu i) at (val_in nu v) (give tt)) (λ nu. tt) (λ nu _. put_items (nu i) (suc at) ds) said t u last y z)
+      (works_then (λ nu. element false (nu i) at (val_in nu v) (give (tt {0}))) (λ nu. tt) (λ nu _. put_items (nu i) (suc at) ds) said t u last y z)
 
   pub items_out : (e : OpStop) (s t : Core) → Works (λ nu. put_data d) (λ nu. told_stop e) s t → Works (λ nu. put_items (nu i) at (Item d ds)) (λ nu. told_stop e) s t
   items_out e s t x = works_out (λ nu. put_data d) (λ nu v. element false (nu i) at v (put_items (nu i) (suc at) ds)) e s t x
 
-  pub items_stop : (v : Value) (e : OpStop) (s t u : Core) → Works (λ nu. put_data d) (λ nu. Says (val_in nu v)) s t → Works (λ nu. element false (nu i) at (val_in nu v) (give tt)) (λ nu. told_stop e) t u
+  pub items_stop : (v : Value) (e : OpStop) (s t u : Core) → Works (λ nu. put_data d) (λ nu. Says (val_in nu v)) s t → Works (λ nu. element false (nu i) at (val_in nu v) (give (tt {0}))) (λ nu. told_stop e) t u
       → Works (λ nu. put_items (nu i) at (Item d ds)) (λ nu. told_stop e) s u
   items_stop v e s t u x y =
       works_then (λ nu. put_data d) (λ nu. val_in nu v) (λ nu v. element false (nu i) at v (put_items (nu i) (suc at) ds)) (λ nu. told_stop e) s t u x
-      (works_out (λ nu. element false (nu i) at (val_in nu v) (give tt)) (λ nu _. put_items (nu i) (suc at) ds) e t u y)
+      (works_out (λ nu. element false (nu i) at (val_in nu v) (give (tt {0}))) (λ nu _. put_items (nu i) (suc at) ds) e t u y)
 
 -- ---- fields: each pays 1 and its key
 

@@ -1,5 +1,5 @@
 //! The keys of elements.
-ghost use Rattle.std.specs.Prelude.{◌≡◌, IfOk};
+ghost use Rattle.std.specs.Prelude.{◌≡◌, ◌+◌, length, IfOk};
 ghost use Rattle.turk_base.specs.Errors.{index_text};
 
 use itoa::Buffer;
@@ -12,4 +12,11 @@ pub fn index_key(alloc: Global, index: u32) -> Result<Units, NoMemory>
 {
     let mut buffer = Buffer::new();
     Units::from_bytes(alloc, buffer.format(index).as_bytes())
+}
+
+/// What a key pays: 1 and its units.
+pub fn key_cost(key: &Units) -> u64
+    ensures { result ≡ length key.now + 1 }
+{
+    key.as_slice().len() as u64 + 1
 }

@@ -10,7 +10,7 @@ ghost use Rattle.run_heap.specs.Core.{count, Rests};
 ghost use Rattle.run_heap.specs.Works.{Works};
 ghost use Rattle.run_data.specs.Short.{many, IsShort, AreItemsShort, AreFieldsShort};
 
-use crate::keys::index_key;
+use crate::keys::{index_key, key_cost};
 use run_heap::RunHeap;
 use std::alloc::Global;
 use turk_base::{Data, Node, Units};
@@ -92,7 +92,7 @@ fn put_fields(
     ensures exists { IfOk result (λ v. needs v ≤ count heap.new) }
 {
     for field in fields {
-        heap.pay(field.0.len() as u64 + 1)?;
+        heap.pay(key_cost(&field.0))?;
         let value = put_node(alloc, heap, field.1.node(), left)?;
         heap.set_free(cell, &field.0, value)?;
     }

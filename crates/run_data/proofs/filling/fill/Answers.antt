@@ -1,4 +1,4 @@
-use Rattle.std.proofs.Common.{◌≡◌, ◌<◌, ap, sym, ◌∙◌, subst, suc, ◌+◌, Some, slice_get, length, drop, map, arith}
+use Rattle.std.proofs.Common.{◌≡◌, true, ◌<◌, ap, sym, ◌∙◌, subst, suc, ◌+◌, Some, slice_get, length, drop, map, arith}
 use Rattle.turk_base.specs.Steps.{give, element, fill}
 use Rattle.value_cells.specs.declared.Value.{Value}
 use Rattle.value_cells.specs.declared.Value.TheVariants.{Object}
@@ -33,7 +33,7 @@ returns-in_err-put_paid-clause-did c =
     (c.loop-place.invariant.leads (λ nu. told_stop x) c.put_paid.new.heap
     (subst (λ l. Works (λ nu. fill (nu c.args.cell) i (map (val_in nu) l)) (λ nu. told_stop x) c.loop-place.heap c.put_paid.new.heap) (sym (drop_next vs i v here))
     (fill_out c.args.cell i v (λ nu. map (val_in nu) (drop (suc i) vs)) x c.loop-place.heap c.put_paid.new.heap
-    (subst (λ (v : Value). Works (λ nu. element true (nu c.args.cell) i (val_in nu v) (give tt)) (λ nu. told_stop x) c.loop-place.heap c.put_paid.new.heap) c.in_ok-value.ensures c.in_err-put_paid.ensures.did))))
+    (subst (λ (v : Value). Works (λ nu. element true (nu c.args.cell) i (val_in nu v) (give (tt {0}))) (λ nu. told_stop x) c.loop-place.heap c.put_paid.new.heap) c.in_ok-value.ensures c.in_err-put_paid.ensures.did))))
 
 pub loop-place-preserved : goal.loop-place-preserved
 loop-place-preserved c =
@@ -48,7 +48,7 @@ loop-place-preserved c =
       leads = λ said last y. c.loop-place.invariant.leads said last
           (subst (λ l. Works (λ nu. fill (nu c.args.cell) i (map (val_in nu) l)) said c.loop-place.heap last) (sym (drop_next vs i v here))
           (fill_on c.args.cell i v (λ nu. map (val_in nu) (drop (suc i) vs)) said c.loop-place.heap c.put_paid.new.heap last
-          (subst (λ (v : Value). Works (λ nu. element true (nu c.args.cell) i (val_in nu v) (give tt)) (λ nu. Says tt) c.loop-place.heap c.put_paid.new.heap) c.in_ok-value.ensures c.in_ok-put_paid.ensures.did)
+          (subst (λ (v : Value). Works (λ nu. element true (nu c.args.cell) i (val_in nu v) (give (tt {0}))) (λ nu. Says tt) c.loop-place.heap c.put_paid.new.heap) c.in_ok-value.ensures c.in_ok-put_paid.ensures.did)
           (subst (λ n. Works (λ nu. fill (nu c.args.cell) n (map (val_in nu) (drop n vs))) said c.put_paid.new.heap last) (sym next) y)));
     }
 

@@ -1,4 +1,4 @@
-use Rattle.std.proofs.Common.{◌≡◌, ap, sym, ◌∙◌, subst, arith, decimal}
+use Rattle.std.proofs.Common.{◌≡◌, true, ap, sym, ◌∙◌, subst, arith, decimal}
 use Rattle.turk_base.specs.Cells.{put}
 use Rattle.turk_base.specs.State.{change}
 use Rattle.turk_base.specs.Steps.{give, step, element}
@@ -12,9 +12,9 @@ use Rattle.run_data.proofs.filling.put_paid.Goals as goal
 pub returns-in_err-set-clause-did : goal.returns-in_err-set-clause-did
 returns-in_err-set-clause-did c =
     let x = c.in_err-set.field-0.0 in
-    err_exit (λ nu. element true (nu c.args.cell) c.args.index (val_in nu c.args.value) (give tt)) (λ nu u. u) c.from_residual-in_err-set.result x c.args.heap.now c.set.new.heap c.from_residual-in_err-set.ensures.1
-    (paid_out c.args.cell c.args.index c.args.value x c.args.heap.now c.set.new.heap
-    (subst (λ k. Works (λ nu. step (change true (nu c.args.cell) (put k (val_in nu c.args.value))) give) (λ nu. told_stop x) c.args.heap.now c.set.new.heap) c.in_ok-key.ensures c.in_err-set.ensures.did))
+    err_exit (λ nu. element true (nu c.args.cell) c.args.index (val_in nu c.args.value) (give (tt {0}))) (λ nu u. u) c.from_residual-in_err-set.result x c.args.heap.now c.set.new.self c.from_residual-in_err-set.ensures.1
+    (paid_out c.args.cell c.args.index c.args.value x c.args.heap.now c.set.new.self
+    (subst (λ k. Works (λ nu. step (change true (nu c.args.cell) (put k (val_in nu c.args.value))) give) (λ nu. told_stop x) c.args.heap.now c.set.new.self) c.in_ok-key.ensures c.in_err-set.ensures.did))
 
 pub returns-clause-did : goal.returns-clause-did
 returns-clause-did c =

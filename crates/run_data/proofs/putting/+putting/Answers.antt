@@ -1,11 +1,12 @@
-use Rattle.std.proofs.Common.{◌≡◌, refl, ap, sym, ◌∙◌, subst, ℕ, suc, ◌+◌, Some, None, slice_get, length, drop, arith}
+use Rattle.std.proofs.Common.{◌≡◌, List, ◌<◌, ◌≤◌, false, refl, ap, sym, ◌∙◌, subst, ℕ, suc, ◌+◌, Some, None, slice_get, length, drop, arith}
 use Rattle.turk_base.specs.Values as model
 use Rattle.turk_base.specs.Values.{Val}
-use Rattle.turk_base.specs.Data.{Data, DText, DList, DFields, nesting, items_of, fields_of}
+use Rattle.turk_base.specs.Data.{Data, DText, nesting_items, nesting_fields, DList, DFields, nesting, items_of, fields_of}
 use Rattle.turk_base.specs.Cells.{put}
 use Rattle.turk_base.specs.State.{charge, change, make}
 use Rattle.turk_base.specs.Steps.{give, step, element, pays, put_data, put_items, put_fields}
 use Rattle.turk_base.specs.Node.{data_of}
+use Rattle.turk_base.specs.declared.Node.{Node}
 use Rattle.value_cells.specs.declared.Value.TheVariants as code
 use Rattle.value_cells.specs.Needs.{needs}
 use Rattle.value_cells.specs.Seen.{Naming, val_in}
@@ -13,10 +14,10 @@ use Rattle.value_cells.specs.Does.{Says, Fails, told, told_stop}
 use Rattle.run_heap.specs.Core.{count}
 use Rattle.run_heap.specs.Works.{Works}
 use Rattle.run_heap.proofs.Index_keys.{drop_next, no_more}
-use Rattle.run_heap.proofs.Turn.{err_exit, works_fails, works_give, keeps_same}
+use Rattle.run_heap.proofs.Turn.{err_exit, fails_exit, works_fails, works_give, keeps_same}
 use Rattle.run_heap.proofs.Whole.{rests_then, rests_same}
 use Rattle.run_data.specs.Short.{IsShort, AreItemsShort, AreFieldsShort}
-use Rattle.run_data.proofs.Parts.{read_at, items_short_at, items_nesting_at, fields_short_at, fields_nesting_at}
+use Rattle.run_data.proofs.Parts.{list_short, list_deep, plain_short, plain_deep, read_at, items_short_at, items_nesting_at, fields_short_at, fields_nesting_at}
 use Rattle.run_data.proofs.Puts.{failed, items_on, items_out, items_stop, fields_on, fields_unpaid, fields_out, fields_stop, prim_ends, cell_ends, cell_out, unpaid}
 use Rattle.run_data.proofs.putting.+putting.Goals as goal
 
@@ -105,7 +106,7 @@ put_fields-returns-in_err-pay-clause-did t c =
     let f = c.field-item.result in
     let here = read_at fs i f c.loop-field-test.true c.field-item.is in
     let x = c.in_err-pay.field-0.0 in
-    let n : c.len.result + 1 ≡ suc (length f.0) = omega (arith, c.len.ensures) in
+    let n : c.key_cost.result ≡ suc (length f.0) = omega (arith, c.key_cost.ensures) in
     err_exit (λ nu. put_fields (nu c.args.cell) (fields_of fs)) (λ nu. val_in nu) c.from_residual.result x c.args.heap.now c.pay.new.self c.from_residual.ensures.1
     (c.loop-field.invariant.leads (λ nu. told_stop x) c.pay.new.self
     (subst (λ l. Works (λ nu. put_fields (nu c.args.cell) (fields_of l)) (λ nu. told_stop x) c.loop-field.heap c.pay.new.self) (sym (drop_next fs i f here))
@@ -119,7 +120,7 @@ put_fields-returns-in_err-value-clause-did t c =
     let f = c.field-item.result in
     let here = read_at fs i f c.loop-field-test.true c.field-item.is in
     let x = c.in_err-value.field-0.0 in
-    let n : c.len.result + 1 ≡ suc (length f.0) = omega (arith, c.len.ensures) in
+    let n : c.key_cost.result ≡ suc (length f.0) = omega (arith, c.key_cost.ensures) in
     err_exit (λ nu. put_fields (nu c.args.cell) (fields_of fs)) (λ nu. val_in nu) c.from_residual-in_err-value.result x c.args.heap.now c.put_node.new.heap c.from_residual-in_err-value.ensures.1
     (c.loop-field.invariant.leads (λ nu. told_stop x) c.put_node.new.heap
     (subst (λ l. Works (λ nu. put_fields (nu c.args.cell) (fields_of l)) (λ nu. told_stop x) c.loop-field.heap c.put_node.new.heap) (sym (drop_next fs i f here))
@@ -135,7 +136,7 @@ put_fields-returns-in_err-set_free-clause-did t c =
     let v = c.in_ok-value.value in
     let here = read_at fs i f c.loop-field-test.true c.field-item.is in
     let x = c.in_err-set_free.field-0.0 in
-    let n : c.len.result + 1 ≡ suc (length f.0) = omega (arith, c.len.ensures) in
+    let n : c.key_cost.result ≡ suc (length f.0) = omega (arith, c.key_cost.ensures) in
     err_exit (λ nu. put_fields (nu c.args.cell) (fields_of fs)) (λ nu. val_in nu) c.from_residual-in_err-set_free.result x c.args.heap.now c.set_free.new.self c.from_residual-in_err-set_free.ensures.1
     (c.loop-field.invariant.leads (λ nu. told_stop x) c.set_free.new.self
     (subst (λ l. Works (λ nu. put_fields (nu c.args.cell) (fields_of l)) (λ nu. told_stop x) c.loop-field.heap c.set_free.new.self) (sym (drop_next fs i f here))
@@ -151,7 +152,7 @@ put_fields-loop-field-preserved t c =
     let f = c.field-item.result in
     let v = c.in_ok-value.value in
     let here = read_at fs i f c.loop-field-test.true c.field-item.is in
-    let n : c.len.result + 1 ≡ suc (length f.0) = omega (arith, c.len.ensures) in
+    let n : c.key_cost.result ≡ suc (length f.0) = omega (arith, c.key_cost.ensures) in
     let next : suc i ≡ i + 1 = omega arith in
     record {
       more = omega (arith, c.loop-field.invariant.more, ap (λ cells. length cells) (λ x. (c.pay.ensures.cells x).now), c.put_node.ensures.more, c.set_free.ensures.count);
@@ -232,7 +233,58 @@ put_plain-returns-in_err-cell-clause-rests t c = rests_then c.args.heap.now c.pa
 -- ---- one node
 
 pub put_node-put_list-requires : goal.put_node-put_list-requires
-put_node-put_list-requires t c = ?
+put_node-put_list-requires t c =
+    let ds = c.in-List.items.items in
+    let v = c.deref.ensures.value in
+    let s = list_short ds (subst (λ (n : Node). IsShort (data_of n)) c.in-List.is c.requires.short) in
+    let d = list_deep ds c.args.left (subst (λ (n : Node). nesting (data_of n) ≤ c.args.left) c.in-List.is c.requires.deep) in
+    (omega (arith, c.decreases), (omega (arith, ap length v, s.0), (subst (λ l. AreItemsShort (items_of l)) (sym v) s.1, omega (arith, ap (λ l. nesting_items (items_of l)) v, d))))
 
 pub put_node-put_plain-requires : goal.put_node-put_plain-requires
-put_node-put_plain-requires t c = ?
+put_node-put_plain-requires t c =
+    let fs = c.in-Fields.fields.items in
+    let v = c.deref-in-Fields.ensures.value in
+    let s = plain_short fs (subst (λ (n : Node). IsShort (data_of n)) c.in-Fields.is c.requires.short) in
+    let d = plain_deep fs c.args.left (subst (λ (n : Node). nesting (data_of n) ≤ c.args.left) c.in-Fields.is c.requires.deep) in
+    (omega (arith, c.decreases), (subst (λ l. AreFieldsShort (fields_of l)) (sym v) s, omega (arith, ap (λ l. nesting_fields (fields_of l)) v, d)))
+
+pub put_node-returns-in_err-copy-in-Text-clause-did : goal.put_node-returns-in_err-copy-in-Text-clause-did
+put_node-returns-in_err-copy-in-Text-clause-did t c =
+    fails_exit (λ (nu : Naming). put_data (data_of c.args.node.now)) (λ nu. val_in nu) c.from_residual.result c.args.heap.now c.args.heap.now (keeps_same c.args.heap.now) c.from_residual.ensures.1
+
+pub put_node-returns-in_ok-copy-in-Text-clause-did : goal.put_node-returns-in_ok-copy-in-Text-clause-did
+put_node-returns-in_ok-copy-in-Text-clause-did t c =
+    let text = c.in-Text.text in
+    let n : c.len.result + 1 ≡ suc (length text) = omega (arith, c.len.ensures) in
+    let said = λ (nu : Naming). told (val_in nu) c.paid-in-Text.result in
+    subst (λ (n : Node). Works (λ (nu : Naming). put_data (data_of n)) said c.args.heap.now c.paid-in-Text.new.heap) (sym c.in-Text.is)
+    (subst (λ (k : ℕ). Works (λ (nu : Naming). pays k (give (model.Text text))) said c.args.heap.now c.paid-in-Text.new.heap) n
+    (subst (λ (u : List ℕ). Works (λ (nu : Naming). pays (c.len.result + 1) (give (model.Text u))) said c.args.heap.now c.paid-in-Text.new.heap) c.in_ok-copy-in-Text.ensures c.paid-in-Text.ensures.did))
+
+pub put_node-returns-in-List-clause-did : goal.put_node-returns-in-List-clause-did
+put_node-returns-in-List-clause-did t c =
+    let said = λ (nu : Naming). told (val_in nu) c.put_list.result in
+    subst (λ (n : Node). Works (λ (nu : Naming). put_data (data_of n)) said c.args.heap.now c.put_list.new.heap) (sym c.in-List.is)
+    (subst (λ (l : List Data). Works (λ (nu : Naming). put_data (DList (items_of l))) said c.args.heap.now c.put_list.new.heap) c.deref.ensures.value c.put_list.ensures.did)
+
+pub put_node-returns-in-Fields-clause-did : goal.put_node-returns-in-Fields-clause-did
+put_node-returns-in-Fields-clause-did t c =
+    let said = λ (nu : Naming). told (val_in nu) c.put_plain.result in
+    subst (λ (n : Node). Works (λ (nu : Naming). put_data (data_of n)) said c.args.heap.now c.put_plain.new.heap) (sym c.in-Fields.is)
+    (subst (λ (l : List (List ℕ × Data)). Works (λ (nu : Naming). put_data (DFields (fields_of l))) said c.args.heap.now c.put_plain.new.heap) c.deref-in-Fields.ensures.value c.put_plain.ensures.did)
+
+pub put_node-returns-in-Undefined-clause-did : goal.put_node-returns-in-Undefined-clause-did
+put_node-returns-in-Undefined-clause-did t c =
+    subst (λ (n : Node). Works (λ (nu : Naming). put_data (data_of n)) (λ nu. told (val_in nu) c.paid.result) c.args.heap.now c.paid.new.heap) (sym c.in-Undefined.is) c.paid.ensures.did
+
+pub put_node-returns-in-Null-clause-did : goal.put_node-returns-in-Null-clause-did
+put_node-returns-in-Null-clause-did t c =
+    subst (λ (n : Node). Works (λ (nu : Naming). put_data (data_of n)) (λ nu. told (val_in nu) c.paid-in-Null.result) c.args.heap.now c.paid-in-Null.new.heap) (sym c.in-Null.is) c.paid-in-Null.ensures.did
+
+pub put_node-returns-in-Truth-clause-did : goal.put_node-returns-in-Truth-clause-did
+put_node-returns-in-Truth-clause-did t c =
+    subst (λ (n : Node). Works (λ (nu : Naming). put_data (data_of n)) (λ nu. told (val_in nu) c.paid-in-Truth.result) c.args.heap.now c.paid-in-Truth.new.heap) (sym c.in-Truth.is) c.paid-in-Truth.ensures.did
+
+pub put_node-returns-in-Number-clause-did : goal.put_node-returns-in-Number-clause-did
+put_node-returns-in-Number-clause-did t c =
+    subst (λ (n : Node). Works (λ (nu : Naming). put_data (data_of n)) (λ nu. told (val_in nu) c.paid-in-Number.result) c.args.heap.now c.paid-in-Number.new.heap) (sym c.in-Number.is) c.paid-in-Number.ensures.did

@@ -1,4 +1,4 @@
-use Rattle.std.proofs.Common.{◌≡◌, ap, sym, ◌∙◌, subst, ◌<◌, arith, decimal}
+use Rattle.std.proofs.Common.{◌≡◌, false, ap, sym, ◌∙◌, subst, ◌<◌, arith, decimal}
 use Rattle.turk_base.specs.Cells.{put}
 use Rattle.turk_base.specs.State.{change}
 use Rattle.turk_base.specs.Steps.{give, step, element}
@@ -14,7 +14,7 @@ use Rattle.run_data.proofs.putting.put_element.Goals as goal
 pub returns-in_err-set_free-clause-did : goal.returns-in_err-set_free-clause-did
 returns-in_err-set_free-clause-did c =
     let x = c.in_err-set_free.field-0.0 in
-    err_exit (λ nu. element false (nu c.args.cell) c.args.index (val_in nu c.args.value) (give tt)) (λ nu u. u) c.from_residual-in_err-set_free.result x c.args.heap.now c.set_free.new.self c.from_residual-in_err-set_free.ensures.1
+    err_exit (λ nu. element false (nu c.args.cell) c.args.index (val_in nu c.args.value) (give (tt {0}))) (λ nu u. u) c.from_residual-in_err-set_free.result x c.args.heap.now c.set_free.new.self c.from_residual-in_err-set_free.ensures.1
     (element_out c.args.cell c.args.index c.args.value x c.args.heap.now c.set_free.new.self
     (subst (λ k. Works (λ nu. step (change false (nu c.args.cell) (put k (val_in nu c.args.value))) give) (λ nu. told_stop x) c.args.heap.now c.set_free.new.self) c.in_ok-key.ensures c.in_err-set_free.ensures.did))
 
