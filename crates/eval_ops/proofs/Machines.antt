@@ -1,6 +1,6 @@
 -- A machine after one of its parts changed.
 use Rattle.std.proofs.Common.{◌≡◌, refl, ap, sym, ◌∙◌, subst, ℕ, ◌<◌, ◌≤◌, List, [], ◌∷◌, ◌++◌, length, take, Some, slice_get, arith}
-use Rattle.std.specs.Prelude.{Result, Ok, Err}
+use Rattle.std.specs.Prelude.{Result, Ok, Err, IsOk, is_ok, if◌then◌else◌}
 use Rattle.std.specs.Result.{IsErrAnd}
 use Rattle.std.proofs.lemmas.Option.{slice_get_within}
 use Rattle.turk_base.specs.Names.{path_in}
@@ -85,9 +85,6 @@ module _ (m : Run) (h : Core) (r : Rests m.heap h) where
   pub heap_did : {A : Type 0} (g : Naming → Small A) (said : Naming → Told A) → Works g said m.heap h → Performs g said (seen_of m) (seen_of (with_heap m h))
   heap_did g said w = subst (λ (x : Around). Performs g said (seen_of m) (seen_in x h)) (sym (around_same m (with_heap m h) (rests_base m h r))) (w.all (around m))
 
-  pub heap_does : (p : Naming → Prim) (said : (nu : Naming) → Told (AnswerOf (p nu))) → Works (λ nu. steps_of (p nu)) said m.heap h → Does p said (seen_of m) (seen_of (with_heap m h))
-  heap_does p said w = let l = heap_did (λ nu. steps_of (p nu)) said w in record { stays = l.stays; did = l.did }
-
   pub pay_does : (n : ℕ) (said : Naming → Told (Unit {0})) → Works (λ nu. step (charge n) give) said m.heap h → Does (λ nu. Pay n) said (seen_of m) (seen_of (with_heap m h))
   unfolding steps_of
   pay_does n said w = let l = heap_did (λ nu. step (charge n) give) said w in record { stays = l.stays; did = l.did }
@@ -114,7 +111,7 @@ run_kept m h k r l = record {
 -- the cells and the scopes around are the same
 pub run_same : (m : Run) (h : Core) → IsRun m → h.cells ≡ m.heap.cells → h.outer ≡ m.heap.outer → IsRun (with_heap m h)
 run_same m h k c o = record {
-  values = omega (arith, k.values, (λ i. length (c i).now));
+  values = (let l : length h.cells.now ≡ length m.heap.cells.now = λ i. length (c i).now in omega (arith, k.values, l));
   kept_values = λ i q cells e f. k.kept_values i q cells e ((λ x. slice_get (sym c x).marks i) ∙ f);
   as_many = k.as_many ∙ ap length (sym o);
   printed = k.printed;
@@ -158,3 +155,8 @@ same_machine m m' n n' e l k r = (subst IsRun (sym e) k, subst (λ (m : Run). Ha
 pub does_exit : {B : Type 0} (p : Naming → Prim) (f : (nu : Naming) → B → AnswerOf (p nu)) (r : Result B OpStop) (x : OpStop) (s t : Seen) → IsErrAnd r (λ e. e ≡ x) → Does p (λ nu. told_stop x) s t → Does p (λ nu. told (f nu) r) s t
 does_exit p f (Ok b) x s t h y = absurd h
 does_exit p f (Err e) x s t h y = subst (λ e. Does p (λ nu. told_stop e) s t) (sym h) y
+
+-- a push that succeeds
+pub pushed_all : {A E B : Type 0} (r : Result A E) (x a b : B) → IsOk r → x ≡ (if is_ok r then a else b) → x ≡ a
+pushed_all (Ok v) x a b h e = e
+pushed_all (Err v) x a b h e = absurd h

@@ -37,7 +37,7 @@ module _ (m : Run) (k : IsRun m) (line : List ℕ) (n left : ℕ) (n_is : n ≡ 
     body = refl;
     many = refl;
     alike = record {
-      same = λ i l. rests_at m printed i (rests_same m.heap) refl
+      same = λ i l. rests_at m printed i (record { cells = refl; slots = record { marks = refl; meaning = λ nu i k e. refl }; path = refl; branch = refl; calls = refl; outer = refl }) refl
           (λ o e. record { printed = front_of m.text (line ++ 10 ∷ []) o.printed (k.printed i o e); absent = refl });
     };
   }

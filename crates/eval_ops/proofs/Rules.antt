@@ -1,5 +1,5 @@
 -- The verdict rule, and calls that take an index.
-use Rattle.std.proofs.Common.{◌≡◌, refl, ap, sym, ◌∙◌, subst, ℕ, suc, ◌+◌, List, length, slice_get}
+use Rattle.std.proofs.Common.{◌≡◌, refl, ap, sym, ◌∙◌, subst, ℕ, suc, ◌+◌, List, length, slice_get, arith}
 use Rattle.turk_base.specs.Names.{path_in}
 use Rattle.turk_base.specs.State.{St, next_call, once_call, threw, first_reason, once_reason, first_open, branch_threw}
 use Rattle.branch_check.specs.Watch.{Watch, after_once, after_join, after_throw}
@@ -51,4 +51,8 @@ module _ (m : Run) where
     body = refl;
     many = refl;
     alike = record { same = λ i l. record { cells = refl; slots = refl; place = refl; outer = refl; meaning = λ nu q e. refl; fronts = λ o e. record { printed = refl; absent = refl } } };
-  }) refl refl (λ nu σ. next_call σ) refl refl (λ nu fits. refl)
+  }) refl refl (λ nu σ. next_call σ) refl refl
+      (λ nu fits.
+      let σ = (seen_of m).first nu in
+      let e : m.heap.place.calls + 1 ≡ suc m.heap.place.calls = omega arith in
+      ap (λ (k : ℕ). record σ { calls = k }) e)

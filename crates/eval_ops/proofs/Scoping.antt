@@ -24,7 +24,7 @@ use Rattle.eval_ops.specs.Stored.{IsRun, HasRoom}
 use Rattle.eval_ops.specs.Calls.{branch_in, Enters, LeavesBack, LeavesKeep}
 use Rattle.eval_ops.proofs.Marks.{Fronts, SameAt, Alike, back_same, scopes_same}
 
-take_all : {A : Type 0} (l : List A) → take (length l) l ≡ l
+pub take_all : {A : Type 0} (l : List A) → take (length l) l ≡ l
 take_all [] = refl
 take_all (x ∷ l) = ap (λ z. x ∷ z) (take_all l)
 
@@ -50,6 +50,9 @@ at_last all front last is = ap (λ l. slice_get l (length front)) is ∙ get_las
 
 one_more : {A : Type 0} (all front : List A) (last : A) → all ≡ front ++ last ∷ [] → length all ≡ suc (length front)
 one_more all front last is = ap length is ∙ length-append front (last ∷ []) ∙ omega arith
+
+no_some : {A : Type 0} {x : A} → None ≡ Some x → ⊥
+no_some e = cc
 
 -- ---- entered
 
@@ -171,6 +174,7 @@ module _ (m : Run) (k : IsRun m) (core : IsCore m.heap) (h : Core) (p : List ℕ
         }
 
     pub enters_run : IsRun m'
+    unfolding n
     enters_run = record {
       values = subst (λ l. all_needs l ≤ length m'.heap.cells.now) (sym values) (omega arith);
       kept_values = λ i q cells a f.
@@ -193,8 +197,11 @@ module _ (m : Run) (k : IsRun m) (core : IsCore m.heap) (h : Core) (p : List ℕ
           j r (ap (λ l. slice_get l j) (sym outer) ∙ b) l;
     }
 
-no_some : {A : Type 0} {x : A} → None ≡ Some x → ⊥
-no_some e = cc
+    pub enters_room : (cap cap2 : ℕ) → HasRoom m cap → cap ≤ cap2 → o.absent < cap2 → m'.left_back ≡ None → HasRoom m' cap2
+    enters_room cap cap2 r l last none = record {
+      kept = λ i q a. pushed (λ i q. q.absent < cap2) m.outer o (λ i q a. let h = r.kept i q a in omega (arith, h, l)) last i q (ap (λ l. slice_get l i) (sym outer) ∙ a);
+      now = λ p e. let z : None ≡ Some p = sym none ∙ e in absurd (no_some z);
+    }
 
 -- ---- left
 
@@ -211,43 +218,41 @@ pub record Left (m m' : Run) (o : Outer) : Type 0 where
   pub fronts : (q : Outer) → q.printed ≤ o.printed → q.absent ≤ o.absent → Fronts m m' q
 
 module _ (m : Run) (k : IsRun m) (core : IsCore m.heap) (m' : Run) (o : Outer) (h : Left m m' o) where
-  n' : ℕ
+  abbrev pub n' : ℕ
   n' = length m'.outer
 
   many_left : length m.outer ≡ suc n'
-  unfolding n'
   many_left = one_more m.outer m'.outer o h.outer
 
   places_left : length m'.heap.outer ≡ n'
-  unfolding n' many_left
+  unfolding many_left
   places_left = omega (arith, one_more m.heap.outer m'.heap.outer m'.heap.place h.places, many_left, k.as_many)
 
   cells_left : length m'.heap.cells.marks ≡ n'
-  unfolding n' many_left
+  unfolding many_left
   cells_left = omega (arith, one_more m.heap.cells.marks m'.heap.cells.marks h.cells.0 h.cells.1, many_left, k.as_many, core.as_many_cells)
 
   slots_left : length m'.heap.slots.marks ≡ n'
-  unfolding n' many_left
+  unfolding many_left
   slots_left = omega (arith, one_more m.heap.slots.marks m'.heap.slots.marks h.slots.0 h.slots.1, many_left, k.as_many, core.as_many_slots)
 
   last_outer : slice_get m.outer n' ≡ Some o
-  unfolding n'
   last_outer = at_last m.outer m'.outer o h.outer
 
   last_place : slice_get m.heap.outer n' ≡ Some m'.heap.place
-  unfolding n' places_left
+  unfolding places_left
   last_place = ap (slice_get m.heap.outer) (sym places_left) ∙ at_last m.heap.outer m'.heap.outer m'.heap.place h.places
 
   slot_mark_at : slice_get m.heap.slots.marks n' ≡ Some h.slots.0
-  unfolding n' slots_left
+  unfolding slots_left
   slot_mark_at = ap (slice_get m.heap.slots.marks) (sym slots_left) ∙ at_last m.heap.slots.marks m'.heap.slots.marks h.slots.0 h.slots.1
 
   less : (i : ℕ) (q : Outer) → i < n' → slice_get m.outer i ≡ Some q → (q.printed ≤ o.printed) × (q.absent ≤ o.absent)
-  unfolding n' last_outer
+  unfolding last_outer
   less i q l e = k.ordered i n' q o l e last_outer
 
   alike_left : Alike n' m m'
-  unfolding n' cells_left slots_left places_left less
+  unfolding cells_left slots_left places_left less
   alike_left = record {
     same = λ i l. record {
       cells = at_front m.heap.cells.marks m'.heap.cells.marks h.cells.0 h.cells.1 i (omega (arith, l, cells_left));
@@ -260,7 +265,7 @@ module _ (m : Run) (k : IsRun m) (core : IsCore m.heap) (m' : Run) (o : Outer) (
   }
 
   around_left : (seen_of m).outer ≡ (seen_of m').scope ∷ (seen_of m').outer
-  unfolding n' many_left last_outer last_place alike_left
+  unfolding many_left last_outer last_place alike_left
   around_left =
       let scope : scope_of (back_of m n') (slice_get m.heap.outer n') (slice_get m.outer n') ≡ (seen_of m').scope =
       (λ x. scope_of (sym (back_same n' m m' alike_left n' (omega arith)) x) (last_place x) (last_outer x))
@@ -269,13 +274,13 @@ module _ (m : Run) (k : IsRun m) (core : IsCore m.heap) (m' : Run) (o : Outer) (
 
   -- what taking back gives
   back_left : (nu : Naming) → (seen_of m).scope.back nu ≡ marked m n' nu
-  unfolding n' many_left
+  unfolding many_left
   back_left nu = ap (λ j. back_of m j nu) many_left
 
   module _ (c : slice_get m.heap.cells.marks n' ≡ Some m'.heap.cells.now) (s : slice_get m.heap.slots.marks n' ≡ Some m'.heap.slots.current) (text : m'.text ≡ take o.printed m.text) (gone : m'.gone ≡ take o.absent m.gone)
       (left : m'.heap.left ≡ m.heap.left) where
     first_back : (nu : Naming) → (seen_of m').first nu ≡ marked m n' nu
-    unfolding n' last_outer last_place
+    unfolding last_outer last_place
     first_back nu =
         (λ x. record {
           calls = m'.heap.place.calls;
@@ -298,7 +303,7 @@ module _ (m : Run) (k : IsRun m) (core : IsCore m.heap) (m' : Run) (o : Outer) (
       (left : m'.heap.left ≡ m.heap.left) where
     -- of the scope that was left stays what stands apart from its count of calls and cells and its values
     first_keep : (nu : Naming) → (seen_of m').first nu ≡ leave (marked m n' nu) ((seen_of m).first nu)
-    unfolding n' last_outer last_place slot_mark_at
+    unfolding last_outer last_place slot_mark_at
     first_keep nu =
         (λ x. record {
           calls = m'.heap.place.calls;
@@ -330,7 +335,7 @@ module _ (m : Run) (k : IsRun m) (core : IsCore m.heap) (m' : Run) (o : Outer) (
   kept_left i q e = less i q (slice_get_within m'.outer i q e) (in_outer i q e)
 
   left_run : all_needs m'.values ≤ length m'.heap.cells.now → (text : o.printed ≤ length m'.text) → (gone : o.absent ≤ length m'.gone) → IsRun m'
-  unfolding n' places_left in_outer kept_left
+  unfolding places_left in_outer kept_left
   left_run values text gone = record {
     values = values;
     kept_values = λ i q cells e f. k.kept_values i q cells (in_outer i q e) (ap (λ l. slice_get l i) h.cells.1 ∙ get_front m'.heap.cells.marks (h.cells.0 ∷ []) i cells f);
@@ -342,21 +347,21 @@ module _ (m : Run) (k : IsRun m) (core : IsCore m.heap) (m' : Run) (o : Outer) (
 
   -- values that there were when the scope was entered
   values_left : (saved : List Cell) → slice_get m.heap.cells.marks n' ≡ Some saved → all_needs m'.values ≤ length saved
-  unfolding n' last_outer
+  unfolding last_outer
   values_left saved c = let z = k.kept_values n' o saved last_outer c in omega (arith, z, ap all_needs h.values)
 
   cell_mark : slice_get m.heap.cells.marks n' ≡ Some h.cells.0
-  unfolding n' cells_left
+  unfolding cells_left
   cell_mark = ap (slice_get m.heap.cells.marks) (sym cells_left) ∙ at_last m.heap.cells.marks m'.heap.cells.marks h.cells.0 h.cells.1
 
   pub back_run : h.cells.0 ≡ m'.heap.cells.now → m'.text ≡ take o.printed m.text → m'.gone ≡ take o.absent m.gone → IsRun m'
-  unfolding n' last_outer left_run values_left cell_mark
+  unfolding last_outer left_run values_left cell_mark
   back_run c text gone =
       let v = values_left h.cells.0 cell_mark in
       left_run (omega (arith, v, ap length c)) (omega (arith, ap length text, take_long o.printed m.text (k.printed n' o last_outer))) (omega (arith, ap length gone, take_long o.absent m.gone (k.absent n' o last_outer)))
 
   pub keep_run : m'.heap.cells.now ≡ m.heap.cells.now → m'.text ≡ m.text → m'.gone ≡ m.gone → IsRun m'
-  unfolding n' last_outer left_run values_left cell_mark
+  unfolding last_outer left_run values_left cell_mark
   keep_run now text gone =
       let v = values_left h.cells.0 cell_mark in
       let g = grows_length (names_in h.cells.0) (names_in m.heap.cells.now) (core.marked.first n' h.cells.0 cell_mark) in
@@ -364,14 +369,14 @@ module _ (m : Run) (k : IsRun m) (core : IsCore m.heap) (m' : Run) (o : Outer) (
       (omega (arith, ap length text, k.printed n' o last_outer)) (omega (arith, ap length gone, k.absent n' o last_outer))
 
   pub room_left : (cap : ℕ) → HasRoom m cap → ((p : List ℕ) → m'.left_back ≡ Some p → length m'.gone ≤ o.absent) → HasRoom m' cap
-  unfolding n' last_outer in_outer
+  unfolding last_outer in_outer
   room_left cap r gone = record {
     kept = λ i q e. r.kept i q (in_outer i q e);
     now = λ p e. let z = r.kept n' o last_outer in let y = gone p e in omega (arith, z, y);
   }
 
   pub gone_short : m'.gone ≡ take o.absent m.gone → length m'.gone ≤ o.absent
-  unfolding n' last_outer
+  unfolding last_outer
   gone_short e = let z = take_long o.absent m.gone (k.absent n' o last_outer) in omega (arith, ap length e, z)
 
 -- ---- from what the heap did
@@ -395,15 +400,15 @@ module _ (m m' : Run) (k : IsRun m) (core : IsCore m.heap) (o : Outer) (b : heap
   }
 
   last_mark : slice_get m.heap.cells.marks (length m'.outer) ≡ Some m'.heap.cells.now
-  unfolding back_is_left cell_mark n'
+  unfolding back_is_left cell_mark
   last_mark = cell_mark m k core m' o back_is_left
 
   last_kept : slice_get m.heap.slots.marks (length m'.outer) ≡ Some m'.heap.slots.current
-  unfolding back_is_left slot_mark_at n'
+  unfolding back_is_left slot_mark_at
   last_kept = slot_mark_at m k core m' o back_is_left
 
   pub goes_back : LeavesBack (seen_of m) (seen_of m')
-  unfolding back_is_left last_mark last_kept n'
+  unfolding back_is_left last_mark last_kept
   goes_back = leaves_back m k core m' o back_is_left last_mark last_kept text gone b.left (core.marked.first (length m'.outer) m'.heap.cells.now last_mark)
 
   pub back_whole : IsRun m'
@@ -430,7 +435,7 @@ module _ (m m' : Run) (k : IsRun m) (core : IsCore m.heap) (o : Outer) (b : heap
   }
 
   pub goes_keep : LeavesKeep (seen_of m) (seen_of m')
-  unfolding keep_is_left cell_mark n'
+  unfolding keep_is_left cell_mark
   goes_keep = leaves_keep m k core m' o keep_is_left (b.cells.0, cell_mark m k core m' o keep_is_left) b.now b.current text gone b.left
 
   pub keep_whole : IsRun m'

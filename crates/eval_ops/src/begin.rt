@@ -26,10 +26,9 @@ impl Machine {
             return Err(OpStop::Spent);
         }
         let mut heap = RunHeap::new(alloc, fuel)?;
-        match heap.make(CellKind::Frame(None)) {
-            Ok(_) => {}
-            Err(_) => return Err(OpStop::Memory),
-        }
+        let Ok(_) = heap.make(CellKind::Frame(None)) else {
+            return Err(OpStop::Memory);
+        };
         Ok(Machine {
             alloc,
             heap,

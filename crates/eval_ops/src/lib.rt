@@ -1,6 +1,6 @@
 //! The state of a run: each access, charge, scope and taking back that an evaluator makes is one
 //! call with the meaning that the definitions give it.
-#![tactic(none)]
+#![tactic(auto)]
 
 use run_heap::{Opened, RunHeap};
 use std::alloc::Global;

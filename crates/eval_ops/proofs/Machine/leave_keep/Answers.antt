@@ -1,7 +1,7 @@
 use Rattle.std.proofs.Common.{rules, ◌≡◌, ◌≤◌, ◌<◌, refl, ap, sym, ◌∙◌, subst, ℕ, List, ◌++◌, ◌∷◌, [], length, None, arith}
 use Rattle.run_heap.specs.Core.{Core}
 use Rattle.eval_ops.specs.Run.{Run, scopes, seen_of}
-use Rattle.eval_ops.specs.Stored.{run_of}
+use Rattle.eval_ops.specs.Stored.{run_of, HasRoom}
 use Rattle.eval_ops.specs.Calls.{LeavesKeep}
 use Rattle.eval_ops.proofs.Marks.{scopes_many}
 use Rattle.eval_ops.proofs.Scoping.{goes_keep, keep_whole, keep_room}
@@ -11,7 +11,7 @@ pub leave_keep-requires-clause-newest : goal.leave_keep-requires-clause-newest
 leave_keep-requires-clause-newest c =
     let m = run_of c.self.inside in
     let e : c.args.entered ≡ length (seen_of m).outer = subst (λ (s : Run). c.args.entered ≡ length (seen_of s).outer) (sym c.self.view_is) c.requires.newest in
-    e ∙ scopes_many m (length m.outer) ∙ c.self.invariant.run.as_many
+    c.entered.view_is ∙ e ∙ scopes_many m (length m.outer) ∙ c.self.invariant.run.as_many
 
 pub leave_keep-requires-clause-open : goal.leave_keep-requires-clause-open
 leave_keep-requires-clause-open c =
@@ -26,7 +26,7 @@ invariant_of-self c =
     let m' : Run = record { heap = c.leave_keep.new.self; body = o.body; values = o.values.items; text = m.text; gone = m.gone; outer = c.pop.new.self.items; left_back = None } in
     record {
       run = keep_whole m m' c.self.invariant.run c.known.ensures.core o c.leave_keep.ensures c.in-Some.ensures.items refl refl refl refl refl;
-      room = ?;
+      room = keep_room m m' c.self.invariant.run c.known.ensures.core o c.leave_keep.ensures c.in-Some.ensures.items refl refl refl refl refl _ c.self.invariant.room;
     }
 
 pub returns : goal.returns

@@ -6,7 +6,7 @@ use Rattle.value_cells.specs.Does.{Does, told}
 use Rattle.run_heap.specs.Core as core
 use Rattle.eval_ops.specs.Run.{Run, around, seen_of, count}
 use Rattle.eval_ops.specs.Stored.{run_of}
-use Rattle.eval_ops.proofs.Machines.{with_heap, heap_does, more, run_kept, room_kept}
+use Rattle.eval_ops.proofs.Machines.{with_heap, heap_did, more, run_kept, room_kept}
 use Rattle.eval_ops.proofs.Machine.read_name.Goals as goal
 
 pub invariant_of-self : goal.invariant_of-self
@@ -21,7 +21,7 @@ returns-clause-did c =
     let m = run_of c.self.inside in
     let h = c.read_name.new.self in
     subst (λ (s : Run). Does (λ (nu : Naming). ReadName (nu c.args.frame) c.args.name.now) (λ nu. told (val_in nu) c.read_name.result) (seen_of s) (seen_of (with_heap m h))) c.self.view_is
-    (heap_does m h c.read_name.ensures.rests (λ (nu : Naming). ReadName (nu c.args.frame) c.args.name.now) (λ nu. told (val_in nu) c.read_name.result) c.read_name.ensures.did)
+    (let l = heap_did m h c.read_name.ensures.rests (λ (nu : Naming). steps_of (ReadName (nu c.args.frame) c.args.name.now)) (λ nu. told (val_in nu) c.read_name.result) c.read_name.ensures.did in record { stays = l.stays; did = l.did })
 
 pub returns-clause-more : goal.returns-clause-more
 returns-clause-more c =

@@ -6,7 +6,7 @@ use Rattle.value_cells.specs.Does.{Does, told}
 use Rattle.run_heap.specs.Core as core
 use Rattle.eval_ops.specs.Run.{Run, around, seen_of, count}
 use Rattle.eval_ops.specs.Stored.{run_of}
-use Rattle.eval_ops.proofs.Machines.{with_heap, heap_does, more, run_kept, room_kept}
+use Rattle.eval_ops.proofs.Machines.{with_heap, heap_did, more, run_kept, room_kept}
 use Rattle.eval_ops.proofs.Machine.write_name.Goals as goal
 
 pub invariant_of-self : goal.invariant_of-self
@@ -21,7 +21,7 @@ returns-clause-did c =
     let m = run_of c.self.inside in
     let h = c.write_name.new.self in
     subst (λ (s : Run). Does (λ (nu : Naming). WriteName (nu c.args.frame) c.args.name.now (val_in nu c.args.value)) (λ nu. told (λ u. u) c.write_name.result) (seen_of s) (seen_of (with_heap m h))) c.self.view_is
-    (heap_does m h c.write_name.ensures.rests (λ (nu : Naming). WriteName (nu c.args.frame) c.args.name.now (val_in nu c.args.value)) (λ nu. told (λ u. u) c.write_name.result) c.write_name.ensures.did)
+    (let l = heap_did m h c.write_name.ensures.rests (λ (nu : Naming). steps_of (WriteName (nu c.args.frame) c.args.name.now (val_in nu c.args.value))) (λ nu. told (λ u. u) c.write_name.result) c.write_name.ensures.did in record { stays = l.stays; did = l.did })
 
 pub returns-clause-more : goal.returns-clause-more
 returns-clause-more c =

@@ -7,7 +7,7 @@ use Rattle.value_cells.specs.Does.{Does, told}
 use Rattle.run_heap.specs.Core as core
 use Rattle.eval_ops.specs.Run.{Run, around, seen_of}
 use Rattle.eval_ops.specs.Stored.{run_of}
-use Rattle.eval_ops.proofs.Machines.{with_heap, heap_does, more, more_seen, run_kept, room_kept}
+use Rattle.eval_ops.proofs.Machines.{with_heap, heap_did, more, more_seen, run_kept, room_kept}
 use Rattle.eval_ops.proofs.heap.MachineHeap.get.Goals as goal
 
 pub invariant_of-self : goal.invariant_of-self
@@ -22,7 +22,7 @@ returns-clause-did c =
     let m = run_of c.self.inside in
     let h = c.get.new.self in
     subst (λ (s : Run). Does (λ (nu : Naming). Get (nu c.args.cell) c.args.key.now) (λ nu. told (option_map (val_in nu)) c.get.result) (seen_of s) (seen_of (with_heap m h))) c.self.view_is
-    (heap_does m h c.get.ensures.rests (λ (nu : Naming). Get (nu c.args.cell) c.args.key.now) (λ nu. told (option_map (val_in nu)) c.get.result) c.get.ensures.did)
+    (let l = heap_did m h c.get.ensures.rests (λ (nu : Naming). steps_of (Get (nu c.args.cell) c.args.key.now)) (λ nu. told (option_map (val_in nu)) c.get.result) c.get.ensures.did in record { stays = l.stays; did = l.did })
 
 pub returns-clause-more : goal.returns-clause-more
 returns-clause-more c =
