@@ -1,5 +1,6 @@
 -- The branches of the scope that runs are joined.
 use Rattle.std.proofs.Common.{◌≡◌, refl, ap, sym, ◌∙◌, subst, ℕ, suc, ◌-◌, ◌<◌, ◌≤◌, nat_lt, Bool, true, false, List, [], ◌∷◌, length, Option, Some, None, map, slice_get, arith, decimal}
+use Rattle.std.specs.Result.{IsErrAnd}
 use Rattle.std.proofs.lemmas.Bool.Decides.{nat_tests}
 use Rattle.std.proofs.lemmas.List.{length-map}
 use Rattle.std.specs.Prelude.{reverse, Result, Ok, Err}
@@ -28,7 +29,7 @@ use Rattle.run_heap.specs.Watching.{Watches}
 use Rattle.run_heap.proofs.Acts.{comes_bind, step_goes}
 use Rattle.run_heap.proofs.Turn.{works_then, works_out}
 use Rattle.eval_ops.specs.Run.{Run, around, seen_of}
-use Rattle.eval_ops.specs.Stored.{IsRun}
+use Rattle.eval_ops.specs.Stored.{IsRun, HasRoom}
 use Rattle.eval_ops.specs.Calls.{join_from, Joins}
 use Rattle.eval_ops.proofs.Marks.{Fronts}
 use Rattle.eval_ops.proofs.Machines.{SameAround, SameBase, rests_at, rests_base, around_same, stays_of}
@@ -191,7 +192,7 @@ joins_none m wanted gone = record { stays = stays_same (seen_of m); did = λ nu 
 pub joins_many : (m : Run) → ((nu : Naming) → any_gone (path_in m.heap.place.path) ((seen_of m).first nu).gone ≡ false) → 1000000 < length m.values → Joins true (Err TooLong) (seen_of m) (seen_of m)
 joins_many m here many = record {
   stays = stays_same (seen_of m);
-  did = λ nu fits. (here nu, (let t : nat_lt 1000000 (length (map (val_in nu) m.values)) ≡ true = let l = length-map m.values (val_in nu) in grind (arith, nat_tests, l) in t, (refl, refl)));
+  did = λ nu fits. (here nu, (let t : nat_lt 1000000 (length (map (val_in nu) m.values)) ≡ true = let l = length-map m.values (val_in nu) in grind (arith, nat_tests, l) in t), (refl, refl));
 }
 
 pub joins_fails : (m : Run) (wanted : Bool) (t : Seen) → Stays (seen_of m) t → Joins wanted (Err Memory) (seen_of m) t
@@ -210,3 +211,11 @@ cleared_run m h k r l = record {
   absent = k.absent;
   ordered = k.ordered;
 }
+
+-- at an exit
+pub joins_exit : (wanted : Bool) (r : Result (Option Value) OpStop) (x : OpStop) (s t : Seen) → IsErrAnd r (λ e. e ≡ x) → Joins wanted (Err x) s t → Joins wanted r s t
+joins_exit wanted (Ok b) x s t h y = absurd h
+joins_exit wanted (Err e) x s t h y = subst (λ e. Joins wanted (Err e) s t) (sym h) y
+
+pub cleared_room : (m : Run) (h : Core) (n : ℕ) → HasRoom m n → HasRoom (cleared m h) n
+cleared_room m h n r = record { kept = r.kept; now = r.now }

@@ -2,6 +2,7 @@ pub mod Joins
 pub mod Machines
 pub mod Marks
 pub mod Notes
+pub mod Prefixes
 pub mod Prints
 pub mod Rules
 pub mod Scoping

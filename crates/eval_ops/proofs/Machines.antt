@@ -1,5 +1,5 @@
 -- A machine after one of its parts changed.
-use Rattle.std.proofs.Common.{◌≡◌, refl, ap, sym, ◌∙◌, subst, ℕ, ◌<◌, ◌≤◌, List, [], ◌∷◌, ◌++◌, length, take, Some, slice_get, arith}
+use Rattle.std.proofs.Common.{◌≡◌, true, false, refl, ap, sym, ◌∙◌, subst, ℕ, ◌<◌, ◌≤◌, List, [], ◌∷◌, ◌++◌, length, take, Some, slice_get, arith}
 use Rattle.std.specs.Prelude.{Result, Ok, Err, IsOk, is_ok, if◌then◌else◌}
 use Rattle.std.specs.Result.{IsErrAnd}
 use Rattle.std.proofs.lemmas.Option.{slice_get_within}
@@ -159,4 +159,4 @@ does_exit p f (Err e) x s t h y = subst (λ e. Does p (λ nu. told_stop e) s t) 
 -- a push that succeeds
 pub pushed_all : {A E B : Type 0} (r : Result A E) (x a b : B) → IsOk r → x ≡ (if is_ok r then a else b) → x ≡ a
 pushed_all (Ok v) x a b h e = e
-pushed_all (Err v) x a b h e = absurd h
+pushed_all (Err v) x a b h e = let q : false ≡ true = h in let z : ⊥ = cc in absurd z

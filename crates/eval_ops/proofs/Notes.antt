@@ -5,7 +5,7 @@ use Rattle.std.proofs.lemmas.List.{reverse-append, map-append}
 use Rattle.turk_base.specs.Names.{path_in, pick, under}
 use Rattle.turk_base.specs.Trace.{begins}
 use Rattle.turk_base.specs.State.{any_gone, absent, give_value}
-use Rattle.branch_check.proofs.Prefixes.{pick_under}
+use Rattle.eval_ops.proofs.Prefixes.{pick_under}
 use Rattle.value_cells.specs.declared.Value.{Value}
 use Rattle.value_cells.specs.Needs.{needs, all_needs}
 use Rattle.value_cells.specs.Seen.{Naming, val_in}
@@ -33,7 +33,9 @@ take_next (y ∷ l) (suc i) x h e = ap (λ z. y ∷ z) (take_next l i x (omega a
 
 pub gone_step : (s p : List ℕ) (l : List (List ℕ)) (i : ℕ) → 0 < i → i ≤ length l → p ≡ get_or l (i - 1) p → gone_in s (take i l) ≡ (if begins s p then true else gone_in s (take (i - 1) l))
 gone_step s p l zero h w e = absurd (omega arith)
-gone_step s p l (suc i) h w e = ap (gone_in s) (take_next l i p (omega arith) e) ∙ gone_last s p (take i l)
+gone_step s p l (suc i) h w e =
+    let z : suc i - 1 ≡ i = omega arith in
+    ap (gone_in s) (take_next l i p (omega arith) (subst (λ (j : ℕ). p ≡ get_or l j p) z e)) ∙ gone_last s p (take i l) ∙ ap (λ (j : ℕ). if begins s p then true else gone_in s (take j l)) (sym z)
 
 -- ---- one is noted
 
@@ -112,19 +114,19 @@ module _ (m : Run) (v : Value) where
     many = refl;
     alike = record { same = λ i l. rests_at m given i (rests_same m.heap) refl (λ o e. record { printed = refl; absent = refl }) };
   }) refl refl (λ nu σ. give_value (val_in nu v) σ) refl refl
-  (λ nu fits.
-  let σ = (seen_of m).first nu in
-  λ x. record {
-    calls = σ.calls;
-    cells = σ.cells;
-    vals = map-append (val_in nu) m.values (v ∷ []) x;
-    known = σ.known;
-    props = σ.props;
-    text = σ.text;
-    opened = σ.opened;
-    verdict = σ.verdict;
-    gone = σ.gone;
-  })
+      (λ nu fits.
+      let σ = (seen_of m).first nu in
+      λ x. record {
+        calls = σ.calls;
+        cells = σ.cells;
+        vals = map-append (val_in nu) m.values (v ∷ []) x;
+        known = σ.known;
+        props = σ.props;
+        text = σ.text;
+        opened = σ.opened;
+        verdict = σ.verdict;
+        gone = σ.gone;
+      })
 
   pub given_run : IsRun m → needs v ≤ length m.heap.cells.now → IsRun given
   given_run k l = record { values = needs_push m.values v (length m.heap.cells.now) k.values l; kept_values = k.kept_values; as_many = k.as_many; printed = k.printed; absent = k.absent; ordered = k.ordered }

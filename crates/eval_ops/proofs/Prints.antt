@@ -22,7 +22,7 @@ use Rattle.eval_ops.proofs.Machines.{SameAround, rests_at, stays_of}
 abbrev pub with_text : Run → Core → List ℕ → Run
 with_text m h more = record m { heap = h; text = m.text ++ more }
 
-pub front_of : (l more : List ℕ) (n : ℕ) → n ≤ length l → take n (l ++ more) ≡ take n l
+pub front_of : {A : Type 0} (l more : List A) (n : ℕ) → n ≤ length l → take n (l ++ more) ≡ take n l
 front_of l more n h = rw take-append-le refl
 
 module _ (m : Run) (k : IsRun m) (line : List ℕ) (n left : ℕ) (n_is : n ≡ suc (length line)) where

@@ -1,5 +1,5 @@
 //! The branches of the scope that runs: those that are absent, the values of the others, and joining.
-ghost use Rattle.std.specs.Prelude.{◌≡◌, ◌≤◌, ◌++◌, ◌∷◌, [], IfOk, IfErr, OnOk, map, reverse};
+ghost use Rattle.std.specs.Prelude.{◌≡◌, ◌<◌, ◌≤◌, true, false, length, IfOk, IfErr, OnOk, map, reverse};
 ghost use Rattle.std.specs.Option.{option_map};
 ghost use Rattle.turk_base.specs.Names.{path_in};
 ghost use Rattle.turk_base.specs.State.{any_gone, give_value};
@@ -25,6 +25,14 @@ fn any_absent(scope: &Path, gone: &[Path]) -> bool
         }
     }
     false
+}
+
+// whether values that are wanted are more than an array holds
+fn too_many(wanted: bool, values: &[Value]) -> bool
+    ensures many { result ≡ true → (wanted ≡ true) × (1000000 < length values.now) }
+    ensures few { result ≡ false → wanted ≡ true → length values.now ≤ 1000000 }
+{
+    wanted && values.len() > 1_000_000
 }
 
 impl Machine {
@@ -63,7 +71,7 @@ impl Machine {
         if any_absent(self.heap.path(), &self.gone) {
             return Ok(None);
         }
-        if wanted && self.values.len() > 1_000_000 {
+        if too_many(wanted, &self.values) {
             return Err(OpStop::TooLong);
         }
         self.heap.joined()?;
