@@ -5,12 +5,16 @@ use Rattle.std.specs.Result.{IsErrAnd}
 use Rattle.std.proofs.lemmas.Option.{slice_get_within}
 use Rattle.turk_base.specs.Names.{path_in}
 use Rattle.turk_base.specs.State.{St, charge}
-use Rattle.turk_base.specs.Prog.{Prim, AnswerOf, Pay}
+use Rattle.turk_base.specs.Prog.{Prim, AnswerOf, Pay, KindOf}
 use Rattle.turk_base.specs.Steps.{Small, give, step, steps_of}
 use Rattle.value_cells.specs.Needs.{all_needs}
-use Rattle.value_cells.specs.Seen.{Naming, Seen, Fits}
+use Rattle.value_cells.specs.declared.CellKind.{CellKind}
+use Rattle.value_cells.specs.Held.{IsWhole, kinds_of}
+use Rattle.run_heap.proofs.Chains.{works_known}
+use Rattle.run_heap.proofs.Turn.{works_give}
+use Rattle.value_cells.specs.Seen.{Naming, Seen, Fits, kind_in}
 use Rattle.value_cells.specs.declared.OpStop.{OpStop}
-use Rattle.value_cells.specs.Does.{Told, Fails, told, told_stop, Stays, Does}
+use Rattle.value_cells.specs.Does.{Told, Says, Fails, told, told_stop, Stays, Does}
 use Rattle.value_cells.proofs.Turns.{grows_length}
 use Rattle.run_heap.specs.Core as core
 use Rattle.run_heap.specs.Core.{Core, names_in, Rests}
@@ -160,3 +164,11 @@ does_exit p f (Err e) x s t h y = subst (λ e. Does p (λ nu. told_stop e) s t) 
 pub pushed_all : {A E B : Type 0} (r : Result A E) (x a b : B) → IsOk r → x ≡ (if is_ok r then a else b) → x ≡ a
 pushed_all (Ok v) x a b h e = e
 pushed_all (Err v) x a b h e = let q : false ≡ true = h in let z : ⊥ = cc in absurd z
+
+pub kind_does : (m : Run) → IsWhole m.heap.cells.now → (i : ℕ) → i < length (names_in m.heap.cells.now) → (kind : CellKind) → slice_get (kinds_of m.heap.cells.now) i ≡ Some kind
+    → Does (λ nu. KindOf (nu i)) (λ nu. Says (kind_in nu kind)) (seen_of m) (seen_of m)
+unfolding steps_of
+kind_does m whole i here kind e =
+    let w = works_known m.heap whole i (omega (arith, here, count_names m.heap.cells.now)) kind e (λ nu k. give k.kind) (λ nu. Says (kind_in nu kind)) m.heap (works_give (λ nu. kind_in nu kind) m.heap) in
+    let l = w.all (around m) in
+    record { stays = l.stays; did = l.did }
