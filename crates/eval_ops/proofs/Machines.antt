@@ -150,10 +150,13 @@ does_fail p s t h = record { stays = h; did = λ nu f. tt }
 
 -- nothing that is seen changed, and the room is no less
 pub same_machine : (m m' : Run) (n n' : ℕ) → m' ≡ m → n ≤ n' → IsRun m → HasRoom m n → IsRun m' × HasRoom m' n'
-same_machine m m' n n' e l k r = (subst IsRun (sym e) k, subst (λ (m : Run). HasRoom m n') (sym e) (record {
-  kept = λ i o f. let h = r.kept i o f in omega (arith, h, l);
-  now = λ p f. let h = r.now p f in omega (arith, h, l);
-}))
+same_machine m m' n n' e l k r = (
+  subst IsRun (sym e) k,
+  subst (λ (m : Run). HasRoom m n') (sym e) (record {
+    kept = λ i o f. let h = r.kept i o f in omega (arith, h, l);
+    now = λ p f. let h = r.now p f in omega (arith, h, l);
+  }),
+)
 
 -- a request that ended the run, at an exit
 pub does_exit : {B : Type 0} (p : Naming → Prim) (f : (nu : Naming) → B → AnswerOf (p nu)) (r : Result B OpStop) (x : OpStop) (s t : Seen) → IsErrAnd r (λ e. e ≡ x) → Does p (λ nu. told_stop x) s t → Does p (λ nu. told (f nu) r) s t

@@ -57,9 +57,6 @@ no_some e = cc
 -- ---- entered
 
 module _ (m : Run) (k : IsRun m) (core : IsCore m.heap) (h : Core) (p : List ℕ) (branch : Bool) (e : heap.Enters p branch m.heap h) where
-
-
-
   module _ (m' : Run) (o : Outer) (o_is : (o.body ≡ m.body) × ((o.values.items ≡ m.values) × ((o.printed ≡ length m.text) × (o.absent ≡ length m.gone))))
       (heap_is : m'.heap ≡ h) (body : m'.body ≡ not branch) (values : m'.values ≡ []) (text : m'.text ≡ m.text) (gone : m'.gone ≡ m.gone) (outer : m'.outer ≡ m.outer ++ o ∷ []) where
     n : ℕ

@@ -33,12 +33,7 @@ fn put_paid(
 }
 
 /// Puts values as the elements of an array from index 0 on; each costs 1. It answers the array.
-pub fn fill(
-    alloc: Global,
-    heap: &mut RunHeap,
-    cell: u32,
-    values: &[Value],
-) -> Result<Value, OpStop>
+pub fn fill(alloc: Global, heap: &mut RunHeap, cell: u32, values: &[Value]) -> Result<Value, OpStop>
     requires cell { cell < count heap.old }
     requires few { length values.now ≤ 1000000 }
     requires values { all_needs values.now ≤ count heap.old }

@@ -101,12 +101,7 @@ fn put_fields(
 
 // a list put: a new array
 #[cycle(putting)]
-fn put_list(
-    alloc: Global,
-    heap: &mut RunHeap,
-    items: &[Data],
-    left: u32,
-) -> Result<Value, OpStop>
+fn put_list(alloc: Global, heap: &mut RunHeap, items: &[Data], left: u32) -> Result<Value, OpStop>
     requires few { length items.now ≤ 1000000 }
     requires short { AreItemsShort (items_of items.now) }
     requires deep { nesting_items (items_of items.now) < left }
@@ -142,12 +137,7 @@ fn put_plain(
 
 // data of one node put; `left` is a bound on its nesting
 #[cycle(putting)]
-fn put_node(
-    alloc: Global,
-    heap: &mut RunHeap,
-    node: &Node,
-    left: u32,
-) -> Result<Value, OpStop>
+fn put_node(alloc: Global, heap: &mut RunHeap, node: &Node, left: u32) -> Result<Value, OpStop>
     requires short { IsShort (data_of node.now) }
     requires deep { nesting (data_of node.now) ≤ left }
     ensures did { Works (λ nu. puts (data_of node.now)) (λ nu. told (val_in nu) result) heap.old heap.new }
