@@ -11,6 +11,9 @@ ghost use Rattle.script_front.specs.Front.{IsRead, IsTree, stop_of_tokens, stop_
 ghost use Rattle.script_front.specs.declared.ScriptStop.TheVariants as why;
 ghost use Rattle.script_grammar.specs.Goes.{Reads};
 
+#[cfg(test)]
+mod tests;
+
 use js_lexer::{LexStop, tokens};
 pub use js_parser::Form;
 use js_parser::{ParseStop, parse};
