@@ -28,6 +28,8 @@ onward_fits {f} {g} {m} e = record {
     within = r.within;
     added = r.added;
     made = r.made;
+    dealt = r.dealt;
+    moved = r.moved;
     shown = r.shown;
     ran = λ nu h E s b l c. subst (λ p. Comes (place E b m) p (m.heap.first nu) (rest_of m) r.added (next_of E (draws_in last.made) last.unmade) (t nu) (last.heap.first nu) (rest_of last))
         (sym (e nu (fits_before r.same.grows h))) (r.ran nu h E s b l c);

@@ -6,18 +6,18 @@ use Rattle.turk_base.specs.State.{St}
 use Rattle.turk_base.specs.Values.{Val, Outcome, Normal}
 use Rattle.turk_base.specs.Prog.{Prog, Loop}
 use Rattle.js_tree.specs.Run.{Out, Res, res, add, run, turns}
-use Rattle.js_tree.specs.World.{World, Rest}
+use Rattle.js_tree.specs.World.{words, World, Rest}
 use Rattle.run_laws.proofs.Sequel.{Place, run_at, Ends, EndsIn, loop, turn_on, turn_out}
 use Rattle.run_laws.proofs.Cuts.{Next, CutsIn, loop_cut, turn_cut, turn_then_cut}
 use Rattle.ask_model.specs.declared.AskStop.{AskStop}
 use Rattle.value_cells.specs.Seen.{Naming, Fits}
 use Rattle.run_host.specs.declared.Halt.{Halt}
-use Rattle.run_host.specs.Moment.{Moment, rest_of, draws_in, Suits, Clear, place, Same, Within}
+use Rattle.run_host.specs.Moment.{Moment, rest_of, draws_in, AllDealt, Moves, Suits, Clear, place, Same, Within}
 use Rattle.run_host.specs.Told.{Told, Says, Halts, Fails, GoesOn, next_of, IsShown, IsOut}
 use Rattle.run_host.specs.Ends.{Like, Comes, says, halts, fails}
 use Rattle.run_host.specs.Did.{Runs}
 use Rattle.run_host.proofs.Comes.{ends_of, add_add, NoValue}
-use Rattle.run_host.proofs.Moments.{fits_before, same_trans, within_trans, suits_before, place_after, clear_after}
+use Rattle.run_host.proofs.Moments.{nowhere, moves_twice, dealt_twice, fits_before, same_trans, within_trans, suits_before, place_after, clear_after}
 
 pub record StopsIn (c : Place) (n : ℕ) (g : Prog) (σ : St) (w : Rest) (r : Res) : Type 0 where
   pub holds : (k : Outcome → St → Rest → Res) → turns n (λ k' υ y. run_at c g k' υ y) k σ w ≡ r
@@ -42,6 +42,8 @@ pub record Turns (g : Naming → Prog) (told : Naming → Told) (old new : Momen
   pub within : (nu : Naming) → GoesOn (told nu) → Within old new
   pub added : List Rec
   pub made : new.made ≡ old.made ++ added
+  pub dealt : AllDealt (words old.words) 0 added
+  pub moved : (nu : Naming) → GoesOn (told nu) → Moves old new added
   pub shown : (nu : Naming) → IsShown (told nu) new.stopped
   pub ran : (nu : Naming) → Fits nu new.heap.names → (E : World) → Suits E new → (bound n : ℕ) → n ≤ bound → old.heap.left < n → Clear nu old →
       ComesIn (place E bound old) n (g nu) (old.heap.first nu) (rest_of old) added (next_of E (draws_in new.made) new.unmade) (told nu) (new.heap.first nu) (rest_of new)
@@ -61,6 +63,8 @@ loop_runs x = record {
   within = x.within;
   added = x.added;
   made = x.made;
+  dealt = x.dealt;
+  moved = x.moved;
   shown = x.shown;
   ran = λ nu f E s b l c. comes_loop (x.ran nu f E s b b (omega arith) l c);
 }
@@ -91,6 +95,8 @@ turns_on {g} {v} {t} {old} {mid} {new} x less y = record {
   within = λ nu z. within_trans y.same (x.within nu tt) (y.within nu z);
   added = x.added ++ y.added;
   made = y.made ∙ ap (λ z. z ++ y.added) x.made ∙ append_assoc old.made x.added y.added;
+  dealt = dealt_twice x.added y.added x.dealt (x.moved nowhere tt) y.dealt;
+  moved = λ nu z. moves_twice x.added y.added (x.moved nu tt) (y.moved nu z);
   shown = y.shown;
   ran = turn;
 }
@@ -114,7 +120,7 @@ last_turn z (fails k) = fails_in (turn_cut k)
 
 -- the turn that ends the loop
 pub turns_out : {g : Naming → Prog} {t : Naming → Told} {old new : Moment} → ((nu : Naming) → NoValue (t nu)) → Runs g t old new → Turns g t old new
-turns_out {g} {t} {old} {new} z x = record { same = x.same; within = x.within; added = x.added; made = x.made; shown = x.shown; ran = turn }
+turns_out {g} {t} {old} {new} z x = record { same = x.same; within = x.within; added = x.added; made = x.made; dealt = x.dealt; moved = x.moved; shown = x.shown; ran = turn }
   where
     turn : (nu : Naming) → Fits nu new.heap.names → (E : World) → Suits E new → (bound n : ℕ) → n ≤ bound → old.heap.left < n → Clear nu old →
         ComesIn (place E bound old) n (g nu) (old.heap.first nu) (rest_of old) x.added (next_of E (draws_in new.made) new.unmade) (t nu) (new.heap.first nu) (rest_of new)

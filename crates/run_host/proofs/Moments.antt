@@ -1,19 +1,21 @@
 -- Moments one after another.
-use Rattle.std.specs.Prelude.{List, length, Some, slice_get}
-use Rattle.std.proofs.Common.{◌≡◌, ◌≤◌, ◌<◌, ℕ, refl, sym, ap, subst, ◌∙◌, arith, [], ◌∷◌, ◌++◌, ◌⊎◌, inl, inr, get_or}
+use Rattle.std.specs.Prelude.{List, length, Some, slice_get, pos, int_rem}
+use Rattle.std.proofs.Common.{◌≡◌, ◌≤◌, ◌<◌, ◌+◌, ℕ, suc, refl, sym, ap, subst, ◌∙◌, arith, [], ◌∷◌, ◌++◌, ◌⊎◌, inl, inr, get_or}
 use Rattle.std.proofs.lemmas.Option.{slice_get_within, slice_get-get_or}
 use Rattle.std.proofs.lemmas.Bool.{cases_lt}
-use Rattle.turk_base.specs.Names.{Name, In, Under, home}
+use Rattle.turk_base.specs.Names.{root, Name, cell, In, Under, home}
 use Rattle.turk_base.specs.Asks.{Rec, rec, path_of}
 use Rattle.turk_base.specs.Prog.{Prog}
 use Rattle.turk_base.specs.Values.{Outcome}
-use Rattle.js_tree.specs.World.{Draws, World, Rest}
+use Rattle.turk_base.specs.declared.Record.{Record}
+use Rattle.turk_base.specs.declared.Record.TheVariants as kept
+use Rattle.js_tree.specs.World.{Draws, words, World, Rest}
 use Rattle.run_laws.proofs.Sequel.{Ends}
 use Rattle.run_laws.proofs.Within.{After}
 use Rattle.run_laws.proofs.Looks.{ends_counted, ends_before}
 use Rattle.run_laws.proofs.Props.{in_split}
 use Rattle.value_cells.specs.Seen.{Naming, Fits, Grows, Scope}
-use Rattle.run_host.specs.Moment.{Moment, cells, drawn_by, AllDealt, Suits, Clear, place, Same, Within}
+use Rattle.run_host.specs.Moment.{Moment, cells, drawn_by, draws_in, Deals, AllDealt, Moves, Suits, Clear, place, Same, Within}
 use native.Mathlib.Nat.{le_refl, le_trans}
 
 pub fits_before : {nu : Naming} {old new : List Name} → Grows old new → Fits nu new → Fits nu old
@@ -79,3 +81,51 @@ clear_after {nu} {E} {bound} {old} {new} {g} {o} {w} {w'} {added} s e h c r m a 
   where
     earlier : After old.heap.scope.path (new.heap.first nu).calls (path_of r) → After old.heap.scope.path (old.heap.first nu).calls (path_of r)
     earlier (i, l, u) = (i, le_trans (ends_counted h).0 l, u)
+
+-- ---- draws
+
+-- some naming
+pub nowhere : Naming
+nowhere i = cell root i
+
+-- nothing was drawn
+pub moves_none : {m : Moment} → Moves m m []
+moves_none {m} = record { on = λ k. ap m.words (omega arith) }
+
+counted : (l m : List Rec) → draws_in (l ++ m) ≡ draws_in l + draws_in m
+counted [] m = omega arith
+counted (rec p x ∷ l) m = by x (counted l m)
+  where
+    by : (x : Record) → draws_in (l ++ m) ≡ draws_in l + draws_in m → drawn_by x (draws_in (l ++ m)) ≡ drawn_by x (draws_in l) + draws_in m
+    by (kept.Post t) e = e
+    by (kept.Reply t v) e = e
+    by (kept.Draw b v) e = omega (arith, e)
+    by (kept.Once d) e = e
+
+pub moves_twice : {a b c : Moment} (l m : List Rec) → Moves a b l → Moves b c m → Moves a c (l ++ m)
+moves_twice {a} {b} {c} l m h g = record { on = λ k. g.on k ∙ h.on (draws_in m + k) ∙ ap a.words (let e = counted l m in omega (arith, e)) }
+
+-- the words from one on are those from another
+dealt_shift : (v w : ℕ → ℕ) (n j : ℕ) (l : List Rec) → ((k : ℕ) → v k ≡ w (n + k)) → AllDealt (words v) j l → AllDealt (words w) (n + j) l
+dealt_shift v w n j [] e h = tt
+dealt_shift v w n j (rec p x ∷ l) e h = by x h (λ i. dealt_shift v w n i l e)
+  where
+    by : (x : Record) → Deals (words v) j p x × AllDealt (words v) (drawn_by x j) l → ((i : ℕ) → AllDealt (words v) i l → AllDealt (words w) (n + i) l)
+        → Deals (words w) (n + j) p x × AllDealt (words w) (drawn_by x (n + j)) l
+    by (kept.Post t) h ih = (tt, ih j h.1)
+    by (kept.Reply t y) h ih = (tt, ih j h.1)
+    by (kept.Draw b y) h ih = (ap (λ i. Some (int_rem (pos i) b)) (sym (e j)) ∙ h.0, subst (λ i. AllDealt (words w) i l) (omega arith) (ih (suc j) h.1))
+    by (kept.Once d) h ih = (tt, ih j h.1)
+
+dealt_more : (d : Draws) (k : ℕ) (l m : List Rec) → AllDealt d k l → AllDealt d (draws_in l + k) m → AllDealt d k (l ++ m)
+dealt_more d k [] m h g = subst (λ i. AllDealt d i m) (omega arith) g
+dealt_more d k (rec p x ∷ l) m h g = (h.0, by x h.1 g (λ i. dealt_more d i l m))
+  where
+    by : (x : Record) → AllDealt d (drawn_by x k) l → AllDealt d (drawn_by x (draws_in l) + k) m → ((i : ℕ) → AllDealt d i l → AllDealt d (draws_in l + i) m → AllDealt d i (l ++ m)) → AllDealt d (drawn_by x k) (l ++ m)
+    by (kept.Post t) h g ih = ih k h g
+    by (kept.Reply t y) h g ih = ih k h g
+    by (kept.Draw b y) h g ih = ih (suc k) h (subst (λ i. AllDealt d i m) (omega arith) g)
+    by (kept.Once c) h g ih = ih k h g
+
+pub dealt_twice : {a b : Moment} (l m : List Rec) → AllDealt (words a.words) 0 l → Moves a b l → AllDealt (words b.words) 0 m → AllDealt (words a.words) 0 (l ++ m)
+dealt_twice {a} {b} l m h g k = dealt_more (words a.words) 0 l m h (dealt_shift b.words a.words (draws_in l) 0 m g.on k)

@@ -21,7 +21,7 @@ use Rattle.run_host.specs.Ends.{Comes, says, halts, fails}
 use Rattle.run_host.specs.Did.{Runs}
 use Rattle.run_host.specs.Steps.{Onward, Step, Leads, Leaves, Gives, Takes}
 use Rattle.run_host.proofs.Comes.{ends_of, NoValue, NoOutcome, comes_then, comes_out, comes_always, comes_always_out}
-use Rattle.run_host.proofs.Moments.{fits_before, same_refl, same_trans, within_refl, within_trans, suits_before, place_after, clear_after}
+use Rattle.run_host.proofs.Moments.{nowhere, moves_none, moves_twice, dealt_twice, fits_before, same_refl, same_trans, within_refl, within_trans, suits_before, place_after, clear_after}
 
 made_twice : {A : Type 0} {b c : List A} (a l m : List A) → b ≡ a ++ l → c ≡ b ++ m → c ≡ a ++ (l ++ m)
 made_twice a l m e f = f ∙ ap (λ z. z ++ m) e ∙ append_assoc a l m
@@ -46,6 +46,8 @@ ends_with {o} {m} = record {
   within = λ nu z. within_refl;
   added = [];
   made = sym (append-nil m.made);
+  dealt = tt;
+  moved = λ nu z. moves_none;
   shown = λ nu. tt;
   ran = λ nu f E s b l c. says done;
 }
@@ -57,6 +59,8 @@ refused {m} y = record {
   within = λ nu z. within_refl;
   added = [];
   made = sym (append-nil m.made);
+  dealt = tt;
+  moved = λ nu z. moves_none;
   shown = λ nu. tt;
   ran = λ nu f E s b l c. halts (record { out = ended (bar (refusal_in y)); is = refl; at = m.heap.first nu; left = m.heap.left; like = record { text = refl; verdict = refl; gone = refl }; stops = record { holds = λ k. refl } });
 }
@@ -68,6 +72,8 @@ no_memory {g} {m} = record {
   within = λ nu z. absurd z;
   added = [];
   made = sym (append-nil m.made);
+  dealt = tt;
+  moved = λ nu z. moves_none;
   shown = λ nu. tt;
   ran = λ nu f E s b l c. fails (record { holds = λ k. front _ refl });
 }
@@ -79,6 +85,8 @@ then_on {g} go {v} {t} {old} {mid} {new} x y = record {
   within = λ nu z. within_trans y.same (x.within nu tt) (y.within nu z);
   added = x.added ++ y.added;
   made = made_twice old.made x.added y.added x.made y.made;
+  dealt = dealt_twice x.added y.added x.dealt (x.moved nowhere tt) y.dealt;
+  moved = λ nu z. moves_twice x.added y.added (x.moved nu tt) (y.moved nu z);
   shown = y.shown;
   ran = λ nu f E s b l c. let p = later x y nu f E s b l c in comes_then p.0 p.1;
 }
@@ -90,6 +98,8 @@ then_out {g} go {t} {old} {new} n x = record {
   within = x.within;
   added = x.added;
   made = x.made;
+  dealt = x.dealt;
+  moved = x.moved;
   shown = x.shown;
   ran = λ nu f E s b l c. comes_out (n nu) (x.ran nu f E s b l c);
 }
@@ -101,6 +111,8 @@ always_on {g} go {o} {t} {old} {mid} {new} x y = record {
   within = λ nu z. within_trans y.same (x.within nu tt) (y.within nu z);
   added = x.added ++ y.added;
   made = made_twice old.made x.added y.added x.made y.made;
+  dealt = dealt_twice x.added y.added x.dealt (x.moved nowhere tt) y.dealt;
+  moved = λ nu z. moves_twice x.added y.added (x.moved nu tt) (y.moved nu z);
   shown = y.shown;
   ran = λ nu f E s b l c. let p = later x y nu f E s b l c in comes_always p.0 p.1;
 }
@@ -112,6 +124,8 @@ always_out {g} go {t} {old} {new} n x = record {
   within = x.within;
   added = x.added;
   made = x.made;
+  dealt = x.dealt;
+  moved = x.moved;
   shown = x.shown;
   ran = λ nu f E s b l c. comes_always_out (n nu) (x.ran nu f E s b l c);
 }

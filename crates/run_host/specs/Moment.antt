@@ -1,6 +1,6 @@
 -- What a run stands at, between two steps of an evaluator: the heap with its open scopes, what is never taken back, and what the
 -- run knows of the outside.
-use Rattle.std.specs.Prelude.{◌≡◌, ℕ, suc, List, [], ◌∷◌, Option, Some, slice_get, ◌≤◌, ◌<◌}
+use Rattle.std.specs.Prelude.{◌≡◌, ◌+◌, ℕ, suc, List, [], ◌∷◌, Option, Some, slice_get, ◌≤◌, ◌<◌}
 use Rattle.turk_base.specs.Names.{Path, Name, Units, In, Under, home}
 use Rattle.turk_base.specs.Values.{Wait, Data}
 use Rattle.turk_base.specs.declared.Record.{Record}
@@ -31,6 +31,8 @@ pub record Moment : Type 0 where
   pub trace : List Rec
   pub pairs : List (Units × Units)
   pub made : List Rec
+  -- the words that are still to be drawn
+  pub words : ℕ → ℕ
   -- why a call was refused, and the record that was not made
   pub stopped : Option AskStop
   pub unmade : Unmade
@@ -99,3 +101,7 @@ pub record Within (old new : Moment) : Type 0 where
   pub outer : new.heap.outer ≡ old.heap.outer
   pub below : (i : ℕ) (n : Name) → slice_get new.heap.names i ≡ Some n → cells old ≤ i → Under old.heap.scope.path (home n)
   pub falls : new.heap.left ≤ old.heap.left
+
+-- The words of the draws among these records were drawn.
+pub record Moves (old new : Moment) (added : List Rec) : Type 0 where
+  pub on : (k : ℕ) → new.words k ≡ old.words (draws_in added + k)

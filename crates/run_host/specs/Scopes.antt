@@ -27,6 +27,7 @@ pub record Opens (is_branch : Bool) (old new : Moment) : Type 0 where
   pub trace : new.trace ≡ old.trace
   pub pairs : new.pairs ≡ old.pairs
   pub made : new.made ≡ old.made
+  pub words : new.words ≡ old.words
   pub waits : new.waits ≡ old.waits
   pub outer : new.heap.outer ≡ old.heap.scope ∷ old.heap.outer
   pub first : (nu : Naming) → new.heap.first nu ≡ enter (called is_branch old.heap.scope.branch (old.heap.first nu))
