@@ -1,5 +1,5 @@
 //! The trait of what answers a run.
-ghost use Rattle.std.specs.Prelude.{◌≡◌, ◌≤◌, ℕ, Bool, List, pos, ◌≤ℤ◌, Some, None, false, length};
+ghost use Rattle.std.specs.Prelude.{◌≡◌, ◌≤◌, ◌+◌, ℕ, Bool, List, pos, int_rem, ◌≤ℤ◌, Some, None, false, length, IfOk, OnOk};
 ghost use Rattle.std.specs.Option.{option_copied};
 ghost use Rattle.turk_base.specs.declared.Entry.{Entry};
 ghost use Rattle.turk_base.specs.declared.Record.TheVariants.{Post, Once};
@@ -27,6 +27,9 @@ pub trait Asker {
     /// That it is in order: what its maker has seen to, and each call keeps.
     ghost is_sound: { Self → Type 0 };
 
+    /// The words of its source that are still to be drawn.
+    ghost words: { Self → ℕ → ℕ };
+
     /// That it tells the board's tasks.
     ghost tells_tasks: { Type 0 };
 
@@ -50,6 +53,7 @@ pub trait Asker {
         ensures known { result ≡ known_at (known_to (seen self.old)) path.now }
         ensures asked { seen self.new ≡ asked_at (seen self.old) path.now }
         ensures fits { (e : Entry) → fits self.new e ≡ fits self.old e }
+        ensures words { (k : ℕ) → words self.new k ≡ words self.old k }
         ensures moment { tells_traces → moment self.new ≡ moment self.old }
         ensures traces { tells_traces → (m : ℕ) (t : List Entry) → left_since self.new m t → left_since self.old m t }
         ensures sound { is_sound self.new }
@@ -70,6 +74,7 @@ pub trait Asker {
         requires token { IsTextWithin token.now }
         ensures adds { Adds (fits self.old) (fits self.new) (entry path.now (Post text.now)) (seen self.old) (seen self.new) (stop_of result) }
         ensures held { IsHeld path.now text.now (stop_of result) }
+        ensures words { (k : ℕ) → words self.new k ≡ words self.old k }
         ensures tasks { tells_tasks → Posts token.now text.now (seen self.old).tasks (seen self.new).tasks (stop_of result) }
         ensures traces { tells_traces → Leaves moment left_since self.old self.new (WithOrWithout (seen self.old) (entry path.now (Post text.now))) }
         ensures sound { is_sound self.new }
@@ -86,12 +91,13 @@ pub trait Asker {
         requires token { IsTextWithin token.now }
         ensures replies { Replies (fits self.old) (fits self.new) path.now token.now (seen self.old) (seen self.new) result (answer (seen self.old).replies token.now) }
         ensures no_board { NoBoard (stop_of result) }
+        ensures words { (k : ℕ) → words self.new k ≡ words self.old k }
         ensures tasks { tells_tasks → (seen self.new).tasks ≡ (seen self.old).tasks }
         ensures traces { tells_traces → Leaves moment left_since self.old self.new (WithReply (seen self.old) path.now token.now (answer (seen self.old).replies token.now)) }
         ensures sound { is_sound self.new }
         ensures keeps { keeps self.old self.new };
 
-    /// A number from 0 to below the bound, which is at least 1, and its record is added.
+    /// A number from 0 to below the bound, which is at least 1: the next word modulo the bound. Its record is added.
     fn draw(&mut self, path: &Path, bound: Whole) -> Result<Whole, AskStop>
         requires sound { is_sound self.old }
         requires open { (seen self.old).closed ≡ false }
@@ -100,6 +106,8 @@ pub trait Asker {
         requires path { IsCallPath path.now }
         requires bound { pos 1 ≤ℤ bound }
         ensures drawn { Drawn seen fits tells_traces moment left_since path.now bound self.old self.new result }
+        ensures word { IfOk result (λ n. n ≡ int_rem (pos (words self.old 0)) bound) }
+        ensures words { OnOk result ((k : ℕ) → words self.new k ≡ words self.old (1 + k)) }
         ensures no_board { NoBoard (stop_of result) }
         ensures tasks { tells_tasks → (seen self.new).tasks ≡ (seen self.old).tasks }
         ensures sound { is_sound self.new }
@@ -113,6 +121,7 @@ pub trait Asker {
         requires within { IsWithin (entry path.now (Once value.now)) }
         ensures adds { Adds (fits self.old) (fits self.new) (entry path.now (Once value.now)) (seen self.old) (seen self.new) (stop_of result) }
         ensures no_board { NoBoard (stop_of result) }
+        ensures words { (k : ℕ) → words self.new k ≡ words self.old k }
         ensures tasks { tells_tasks → (seen self.new).tasks ≡ (seen self.old).tasks }
         ensures traces { tells_traces → Leaves moment left_since self.old self.new (WithOrWithout (seen self.old) (entry path.now (Once value.now))) }
         ensures sound { is_sound self.new }

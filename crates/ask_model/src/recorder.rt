@@ -334,6 +334,8 @@ impl<'a, W: Draws> Asker for Recorder<'a, W> {
 
     ghost fits = { λ r e. fits_on r.shelf.now e };
 
+    ghost words = { λ r. W.rest r.draws.now };
+
     ghost is_sound = { λ r. IsInOrder r.shelf.now r.start (recorded r.shelf.now r.start r.desk.now.tasks r.desk.now.faults r.replies.now r.asked r.refused) };
 
     ghost tells_tasks = { ⊤ };

@@ -68,6 +68,8 @@ impl<'a, W: Draws> Asker for TableAsker<'a, W> {
 
     ghost fits = { λ t e. true };
 
+    ghost words = { λ t. W.rest t.draws.now };
+
     ghost is_sound = { λ t. KnowsWithin (table t.trace.items t.replies.now t.made.items t.asked t.refused) };
 
     ghost tells_tasks = { ⊥ };
