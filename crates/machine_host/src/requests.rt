@@ -1,0 +1,1 @@
+//! The requests that a machine answers alone.
