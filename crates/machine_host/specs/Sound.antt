@@ -22,9 +22,9 @@ pub record IsGood (s : Seen) : Type 0 where
   pub backs : BacksKnow s.scope s.outer
 
 -- each open scope by the count of those around it
-pub record AreOpen (open : List ℕ) (outer : List Scope) : Type 0 where
-  pub many : length open ≡ length outer
-  pub counted : (i n : ℕ) → slice_get open i ≡ Some n → n ≡ suc i
+pub record AreOpen (entered : List ℕ) (outer : List Scope) : Type 0 where
+  pub many : length entered ≡ length outer
+  pub counted : (i n : ℕ) → slice_get entered i ≡ Some n → n ≡ suc i
 
 -- an asker in order, which is asked no more once it is closed
 pub record IsAsked {A : Type 0} (is_sound : A → Type 0) (seen : A → Asked) (closed : Bool) (asker : A) : Type 0 where

@@ -3,11 +3,13 @@
 #![tactic(auto)]
 
 use ask_model::AskStop;
-use eval_ops::{Entered, Machine};
+use eval_ops::Entered;
+use guarded::Guarded;
 use std::alloc::Global;
 use turk_base::{Data, Name, Path, Units, Whole};
 
 mod exits;
+mod guarded;
 mod requests;
 
 /// What a run waits for: a task's reply, or nothing, where it crashed in that scope.
@@ -53,8 +55,8 @@ pub struct Notes {
 /// A run over a machine and an asker. It is asked no more once a call of the asker was refused.
 pub struct AskedRun<A> {
     alloc: Global,
-    machine: Machine,
-    open: Vec<Entered>,
+    guarded: Guarded,
+    entered: Vec<Entered>,
     notes: Notes,
     closed: bool,
     asker: A,
