@@ -7,3 +7,4 @@ pub mod Prints
 pub mod Rules
 pub mod Scoping
 pub mod Starts
+pub mod Tells

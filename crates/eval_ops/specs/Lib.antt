@@ -1,3 +1,4 @@
 pub mod Calls
+pub mod Looks
 pub mod Run
 pub mod Stored

@@ -66,7 +66,9 @@ impl Machine {
     /// and there are more than 1,000,000; with Spent exactly past the fuel.
     pub fn join(&mut self, wanted: bool) -> Result<Option<Value>, OpStop>
         ensures did { Joins wanted result (seen_of self.old) (seen_of self.new) }
+        ensures more { count self.old ≤ count self.new }
         ensures exists { IfOk result (λ v. option_needs v ≤ count self.new) }
+        ensures gone { self.new.gone ≡ self.old.gone }
     {
         if any_absent(self.heap.path(), &self.gone) {
             return Ok(None);

@@ -21,6 +21,7 @@ impl Machine {
         ensures did { Performs (λ nu. puts from.now) (λ nu. told (val_in nu) result) (seen_of self.old) (seen_of self.new) }
         ensures more { count self.old ≤ count self.new }
         ensures exists { IfOk result (λ v. needs v ≤ count self.new) }
+        ensures gone { self.new.gone ≡ self.old.gone }
     {
         run_data::put_data(self.alloc, &mut self.heap, from)
     }

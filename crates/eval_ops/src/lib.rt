@@ -12,6 +12,7 @@ mod begin;
 mod branches;
 mod data;
 mod heap;
+mod looks;
 mod names;
 mod output;
 mod scopes;

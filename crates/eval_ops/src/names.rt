@@ -27,6 +27,7 @@ impl Machine {
         requires there { IsSome (own self.old.heap.cells.now frame name.now) }
         ensures did { Does (λ nu. ReadName (nu frame) name.now) (λ nu. told (val_in nu) result) (seen_of self.old) (seen_of self.new) }
         ensures more { count self.old ≤ count self.new }
+        ensures gone { self.new.gone ≡ self.old.gone }
         ensures exists { IfOk result (λ v. needs v ≤ count self.new) }
     {
         self.heap.read_name(frame, name)
@@ -39,6 +40,7 @@ impl Machine {
         requires value { needs value ≤ count self.old }
         ensures did { Does (λ nu. WriteName (nu frame) name.now (val_in nu value)) (λ nu. told (λ u. u) result) (seen_of self.old) (seen_of self.new) }
         ensures more { count self.old ≤ count self.new }
+        ensures gone { self.new.gone ≡ self.old.gone }
     {
         self.heap.write_name(frame, name, value)
     }
@@ -50,6 +52,7 @@ impl Machine {
         requires value { needs value ≤ count self.old }
         ensures did { Does (λ nu. Declare (nu frame) name.now (val_in nu value)) (λ nu. told (λ u. u) result) (seen_of self.old) (seen_of self.new) }
         ensures more { count self.old ≤ count self.new }
+        ensures gone { self.new.gone ≡ self.old.gone }
     {
         self.heap.declare(frame, name, value)
     }
@@ -60,6 +63,7 @@ impl Machine {
         requires { cell < count self.old }
         ensures did { Does (λ nu. Keys (nu cell)) (λ nu. told (λ keys. keys.items) result) (seen_of self.old) (seen_of self.new) }
         ensures more { count self.old ≤ count self.new }
+        ensures gone { self.new.gone ≡ self.old.gone }
     {
         self.heap.listed(cell)
     }

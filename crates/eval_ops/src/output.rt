@@ -24,6 +24,7 @@ impl Machine {
     pub fn print(&mut self, line: &Units) -> Result<(), OpStop>
         ensures did { Does (λ nu. Print line.now) (λ nu. told (λ u. u) result) (seen_of self.old) (seen_of self.new) }
         ensures more { count self.old ≤ count self.new }
+        ensures gone { self.new.gone ≡ self.old.gone }
     {
         self.heap.pay(line.as_slice().len() as u64 + 1)?;
         add_line(self.alloc, &mut self.output, line)?;

@@ -1,11 +1,11 @@
 -- A scope that was opened for a call, and programs that know no cells but those that there were.
-use Rattle.std.specs.Prelude.{◌≡◌, ◌<◌, ℕ, suc, Bool, true, false, ◌∷◌, None, Result, Ok, Err}
-use Rattle.turk_base.specs.Names.{Path, sub}
+use Rattle.std.specs.Prelude.{◌≡◌, ◌<◌, ℕ, suc, Bool, true, false, ◌∷◌, None, Result, Ok, Err, IsSome}
+use Rattle.turk_base.specs.Names.{Path, sub, Name}
 use Rattle.turk_base.specs.Values as model
 use Rattle.turk_base.specs.State.{St, once_call, next_call, enter}
 use Rattle.turk_base.specs.Asks.{find}
 use Rattle.turk_base.specs.Prog.{Prog}
-use Rattle.value_cells.specs.Seen.{Naming}
+use Rattle.value_cells.specs.Seen.{Naming, Seen, count}
 use Rattle.run_host.specs.declared.Exit.{Exit}
 use Rattle.run_host.specs.Moment.{Moment}
 use Rattle.run_host.specs.Told.{Told, Says, told_exit}
@@ -19,8 +19,15 @@ abbrev pub called : Bool → Path → St → St
 called true branch σ = next_call σ
 called false branch σ = once_call branch (next_call σ)
 
+-- The state hangs on the names of the cells that there are alone, and it knows just those cells.
+pub record KnowsItsCells (s : Seen) : Type 0 where
+  pub own : (nu mu : Naming) → ((i : ℕ) → i < count s → nu i ≡ mu i) → s.first nu ≡ s.first mu
+  pub there : (nu : Naming) (i : ℕ) → i < count s → IsSome ((s.first nu).known (nu i))
+  pub only : (nu : Naming) (n : Name) → IsSome ((s.first nu).known n) → (i : ℕ) × (i < count s) × (nu i ≡ n)
+
 -- The scope of a call that has no record was opened: a branch, or a once body.
 pub record Opens (is_branch : Bool) (old new : Moment) : Type 0 where
+  pub cells : KnowsItsCells old.heap
   pub names : new.heap.names ≡ old.heap.names
   pub left : new.heap.left ≡ old.heap.left
   pub session : new.session ≡ old.session

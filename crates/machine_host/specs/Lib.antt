@@ -1,0 +1,5 @@
+pub mod Exits
+pub mod Guards
+pub mod Moments
+pub mod Runs
+pub mod Sound
