@@ -4,7 +4,7 @@ ghost use Rattle.std.specs.Option.{option_map};
 ghost use Rattle.turk_base.specs.Names.{path_in};
 ghost use Rattle.turk_base.specs.State.{any_gone, give_value};
 ghost use Rattle.value_cells.specs.Needs.{needs, option_needs};
-ghost use Rattle.value_cells.specs.Seen.{val_in};
+ghost use Rattle.value_cells.specs.Seen.{Naming, val_in};
 ghost use Rattle.eval_ops.specs.Run.{seen_of, count};
 ghost use Rattle.eval_ops.specs.Calls.{Changes, notes, Joins};
 
@@ -45,6 +45,13 @@ impl Machine {
             return;
         };
         let _ = self.gone.push(path);
+    }
+
+    /// Whether a branch is absent in the scope that runs.
+    pub fn lacks_branch(&self) -> bool
+        ensures { (nu : Naming) → result ≡ any_gone (seen_of self.now).scope.path ((seen_of self.now).first nu).gone }
+    {
+        any_absent(self.heap.path(), &self.gone)
     }
 
     /// Adds a value at the end of the values of the branches of the scope that runs. After want of

@@ -51,10 +51,10 @@ module _ (old new : Run) where
 -- ---- requests
 
 module _ {A B : Type 0} (f : Naming → Step A) (g : Naming → Small A) (asks : (nu : Naming) → Asks (f nu) (g nu)) (h : Naming → B → A) where
-  pub request : {X : Type 0} (seen : X → Asked) (run : AskedRun X) (m : Run) (r : Result B OpStop) (x : Result B Exit) → x ≡ answer_at r → Performs g (λ nu. told (h nu) r) (heap_of run) (seen_of m)
-      → m.gone ≡ run.guarded.machine.gone → Takes f h x (moment_of seen run) (with_heap (moment_of seen run) (seen_of m))
-  request seen run m r x e p gone =
-      let old = moment_of seen run in
+  pub request : {X : Type 0} (seen : X → Asked) (words : X → ℕ → ℕ) (run : AskedRun X) (m : Run) (r : Result B OpStop) (x : Result B Exit) → x ≡ answer_at r → Performs g (λ nu. told (h nu) r) (heap_of run) (seen_of m)
+      → m.gone ≡ run.guarded.machine.gone → Takes f h x (moment_of seen words run) (with_heap (moment_of seen words run) (seen_of m))
+  request seen words run m r x e p gone =
+      let old = moment_of seen words run in
       subst (λ x. Takes f h x old (with_heap old (seen_of m))) (sym e) (takes_steps f g asks h old (seen_of m) r p (λ nu. ap (λ l. map path_in (reverse l)) gone))
 
 abbrev left_in : Comes (Unit {0}) → ℕ

@@ -125,6 +125,8 @@ module _ {B : Type 0} {f : Naming → Prog} {m : Moment} {come : Naming → Come
     within = λ nu g. within_heap m t stays (fell (λ nu. stops y (t.first nu) t.left) d (λ nu h. h.0));
     added = [];
     made = sym (append-nil m.made);
+    dealt = tt;
+    moved = λ nu z. record { on = λ k. ap m.words (omega arith) };
     shown = λ nu. tt;
     ran = λ nu fits E s bound l c. halts (record {
       out = ended (bar y);
@@ -143,6 +145,8 @@ module _ {B : Type 0} {f : Naming → Prog} {m : Moment} {come : Naming → Come
     within = λ nu g. absurd g;
     added = [];
     made = sym (append-nil m.made);
+    dealt = tt;
+    moved = λ nu z. record { on = λ k. ap m.words (omega arith) };
     shown = λ nu. tt;
     ran = λ nu fits E s bound l c.
         let q = d nu fits in
@@ -163,6 +167,8 @@ module _ {B : Type 0} {f : Naming → Prog} {m : Moment} {come : Naming → Come
     within = λ nu g. absurd g;
     added = [];
     made = sym (append-nil m.made);
+    dealt = tt;
+    moved = λ nu z. record { on = λ k. ap m.words (omega arith) };
     shown = λ nu. tt;
     ran = λ nu fits E s bound l c. fails (record { holds = λ k. front _ refl });
   }
@@ -176,6 +182,8 @@ module _ {B : Type 0} {f : Naming → Prog} {m : Moment} {come : Naming → Come
     within = λ nu z. within_trans r.same (within_heap m t stays low) (r.within nu z);
     added = r.added;
     made = r.made;
+    dealt = r.dealt;
+    moved = λ nu z. record { on = (r.moved nu z).on };
     shown = r.shown;
     ran = λ nu fits E s bound l c.
         let e = d nu (fits_before r.same.grows fits) in

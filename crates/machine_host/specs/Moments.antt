@@ -40,8 +40,8 @@ pub record Notes : Type 0 where
   pub stopped : Option AskStop
   pub unmade : Unmade
 
-abbrev pub moment_at : Seen → Asked → Notes → Moment
-moment_at heap asked notes = record {
+abbrev pub moment_at : Seen → Asked → (ℕ → ℕ) → Notes → Moment
+moment_at heap asked words notes = record {
   heap = heap;
   forks = notes.forks;
   waits = map wait_in notes.waits;
@@ -49,6 +49,7 @@ moment_at heap asked notes = record {
   trace = records_of asked.trace;
   pairs = asked.replies;
   made = records_of asked.made;
+  words = words;
   stopped = notes.stopped;
   unmade = unmade_in notes.unmade;
 }

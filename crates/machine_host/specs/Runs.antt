@@ -1,5 +1,5 @@
 -- A run over a machine and an asker, as contracts see it.
-use Rattle.std.specs.Prelude.{List}
+use Rattle.std.specs.Prelude.{ℕ, List}
 use Rattle.ask_model.specs.Asker.{Seen as Asked}
 use Rattle.value_cells.specs.Seen.{Seen}
 use Rattle.eval_ops.specs.Run.{Run, seen_of}
@@ -15,8 +15,8 @@ notes_of n = record { forks = n.forks; waits = n.waits.items; session = n.sessio
 abbrev pub heap_of : {A : Type 0} → AskedRun A → Seen
 heap_of h = seen_of h.guarded.machine
 
-abbrev pub moment_of : {A : Type 0} → (A → Asked) → AskedRun A → Moment
-moment_of seen h = moment_at (heap_of h) (seen h.asker) (notes_of h.notes)
+abbrev pub moment_of : {A : Type 0} → (A → Asked) → (A → ℕ → ℕ) → AskedRun A → Moment
+moment_of seen words h = moment_at (heap_of h) (seen h.asker) (words h.asker) (notes_of h.notes)
 
 pub record IsSound {A : Type 0} (is_sound : A → Type 0) (seen : A → Asked) (h : AskedRun A) : Type 0 where
   pub asked : IsAsked is_sound seen h.closed h.asker

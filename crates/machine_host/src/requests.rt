@@ -23,9 +23,9 @@ impl<A: Asker> AskedRun<A> {
     /// Pays so many units of fuel.
     pub fn pay(&mut self, units: u64) -> Result<(), Exit>
         requires sound { IsSound A.is_sound A.seen self.old }
-        ensures did { Takes (λ nu. ask (Pay units)) (λ nu u. u) result (moment_of A.seen self.old) (moment_of A.seen self.new) }
-        ensures spent { OnOk result ((moment_of A.seen self.new).heap.left + units ≡ (moment_of A.seen self.old).heap.left) }
-        ensures more { cells (moment_of A.seen self.old) ≤ cells (moment_of A.seen self.new) }
+        ensures did { Takes (λ nu. ask (Pay units)) (λ nu u. u) result (moment_of A.seen A.words self.old) (moment_of A.seen A.words self.new) }
+        ensures spent { OnOk result ((moment_of A.seen A.words self.new).heap.left + units ≡ (moment_of A.seen A.words self.old).heap.left) }
+        ensures more { cells (moment_of A.seen A.words self.old) ≤ cells (moment_of A.seen A.words self.new) }
         ensures thrown { IfErr result (λ x. exit_needs x ≡ 0) }
         ensures sound { IsSound A.is_sound A.seen self.new }
     {
@@ -37,10 +37,10 @@ impl<A: Asker> AskedRun<A> {
     /// Makes a cell of the scope that runs, which costs 1.
     pub fn make(&mut self, kind: CellKind) -> Result<u32, Exit>
         requires sound { IsSound A.is_sound A.seen self.old }
-        requires kind { kind_needs kind ≤ cells (moment_of A.seen self.old) }
-        ensures did { Takes (λ nu. ask (Make (kind_in nu kind))) (λ nu i. nu i) result (moment_of A.seen self.old) (moment_of A.seen self.new) }
-        ensures more { cells (moment_of A.seen self.old) ≤ cells (moment_of A.seen self.new) }
-        ensures exists { IfOk result (λ i. i < cells (moment_of A.seen self.new)) }
+        requires kind { kind_needs kind ≤ cells (moment_of A.seen A.words self.old) }
+        ensures did { Takes (λ nu. ask (Make (kind_in nu kind))) (λ nu i. nu i) result (moment_of A.seen A.words self.old) (moment_of A.seen A.words self.new) }
+        ensures more { cells (moment_of A.seen A.words self.old) ≤ cells (moment_of A.seen A.words self.new) }
+        ensures exists { IfOk result (λ i. i < cells (moment_of A.seen A.words self.new)) }
         ensures thrown { IfErr result (λ x. exit_needs x ≡ 0) }
         ensures sound { IsSound A.is_sound A.seen self.new }
     {
@@ -52,10 +52,10 @@ impl<A: Asker> AskedRun<A> {
     /// The property that a cell has, else the first of its prototypes that has the key, or None.
     pub fn get(&mut self, cell: u32, key: &Units) -> Result<Option<Value>, Exit>
         requires sound { IsSound A.is_sound A.seen self.old }
-        requires cell { cell < cells (moment_of A.seen self.old) }
-        ensures did { Takes (λ nu. ask (Get (nu cell) key.now)) (λ nu v. option_map (val_in nu) v) result (moment_of A.seen self.old) (moment_of A.seen self.new) }
-        ensures more { cells (moment_of A.seen self.old) ≤ cells (moment_of A.seen self.new) }
-        ensures exists { IfOk result (λ v. option_needs v ≤ cells (moment_of A.seen self.new)) }
+        requires cell { cell < cells (moment_of A.seen A.words self.old) }
+        ensures did { Takes (λ nu. ask (Get (nu cell) key.now)) (λ nu v. option_map (val_in nu) v) result (moment_of A.seen A.words self.old) (moment_of A.seen A.words self.new) }
+        ensures more { cells (moment_of A.seen A.words self.old) ≤ cells (moment_of A.seen A.words self.new) }
+        ensures exists { IfOk result (λ v. option_needs v ≤ cells (moment_of A.seen A.words self.new)) }
         ensures thrown { IfErr result (λ x. exit_needs x ≡ 0) }
         ensures sound { IsSound A.is_sound A.seen self.new }
     {
@@ -67,10 +67,10 @@ impl<A: Asker> AskedRun<A> {
     /// Sets a cell's own property, or creates it last.
     pub fn put(&mut self, cell: u32, key: &Units, value: Value) -> Result<(), Exit>
         requires sound { IsSound A.is_sound A.seen self.old }
-        requires cell { cell < cells (moment_of A.seen self.old) }
-        requires value { needs value ≤ cells (moment_of A.seen self.old) }
-        ensures did { Takes (λ nu. ask (Put (nu cell) key.now (val_in nu value))) (λ nu u. u) result (moment_of A.seen self.old) (moment_of A.seen self.new) }
-        ensures more { cells (moment_of A.seen self.old) ≤ cells (moment_of A.seen self.new) }
+        requires cell { cell < cells (moment_of A.seen A.words self.old) }
+        requires value { needs value ≤ cells (moment_of A.seen A.words self.old) }
+        ensures did { Takes (λ nu. ask (Put (nu cell) key.now (val_in nu value))) (λ nu u. u) result (moment_of A.seen A.words self.old) (moment_of A.seen A.words self.new) }
+        ensures more { cells (moment_of A.seen A.words self.old) ≤ cells (moment_of A.seen A.words self.new) }
         ensures thrown { IfErr result (λ x. exit_needs x ≡ 0) }
         ensures sound { IsSound A.is_sound A.seen self.new }
     {
@@ -82,9 +82,9 @@ impl<A: Asker> AskedRun<A> {
     /// Deletes a cell's own property. False for what can't be deleted.
     pub fn remove(&mut self, cell: u32, key: &Units) -> Result<bool, Exit>
         requires sound { IsSound A.is_sound A.seen self.old }
-        requires cell { cell < cells (moment_of A.seen self.old) }
-        ensures did { Takes (λ nu. ask (Remove (nu cell) key.now)) (λ nu b. b) result (moment_of A.seen self.old) (moment_of A.seen self.new) }
-        ensures more { cells (moment_of A.seen self.old) ≤ cells (moment_of A.seen self.new) }
+        requires cell { cell < cells (moment_of A.seen A.words self.old) }
+        ensures did { Takes (λ nu. ask (Remove (nu cell) key.now)) (λ nu b. b) result (moment_of A.seen A.words self.old) (moment_of A.seen A.words self.new) }
+        ensures more { cells (moment_of A.seen A.words self.old) ≤ cells (moment_of A.seen A.words self.new) }
         ensures thrown { IfErr result (λ x. exit_needs x ≡ 0) }
         ensures sound { IsSound A.is_sound A.seen self.new }
     {
@@ -96,9 +96,9 @@ impl<A: Asker> AskedRun<A> {
     /// The keys that for-in lists for a cell, in order.
     pub fn keys(&mut self, cell: u32) -> Result<Vec<Units>, Exit>
         requires sound { IsSound A.is_sound A.seen self.old }
-        requires cell { cell < cells (moment_of A.seen self.old) }
-        ensures did { Takes (λ nu. ask (Keys (nu cell))) (λ nu ks. ks.items) result (moment_of A.seen self.old) (moment_of A.seen self.new) }
-        ensures more { cells (moment_of A.seen self.old) ≤ cells (moment_of A.seen self.new) }
+        requires cell { cell < cells (moment_of A.seen A.words self.old) }
+        ensures did { Takes (λ nu. ask (Keys (nu cell))) (λ nu ks. ks.items) result (moment_of A.seen A.words self.old) (moment_of A.seen A.words self.new) }
+        ensures more { cells (moment_of A.seen A.words self.old) ≤ cells (moment_of A.seen A.words self.new) }
         ensures thrown { IfErr result (λ x. exit_needs x ≡ 0) }
         ensures sound { IsSound A.is_sound A.seen self.new }
     {
@@ -110,8 +110,8 @@ impl<A: Asker> AskedRun<A> {
     /// Adds a line to the output.
     pub fn print(&mut self, line: &Units) -> Result<(), Exit>
         requires sound { IsSound A.is_sound A.seen self.old }
-        ensures did { Takes (λ nu. ask (Print line.now)) (λ nu u. u) result (moment_of A.seen self.old) (moment_of A.seen self.new) }
-        ensures more { cells (moment_of A.seen self.old) ≤ cells (moment_of A.seen self.new) }
+        ensures did { Takes (λ nu. ask (Print line.now)) (λ nu u. u) result (moment_of A.seen A.words self.old) (moment_of A.seen A.words self.new) }
+        ensures more { cells (moment_of A.seen A.words self.old) ≤ cells (moment_of A.seen A.words self.new) }
         ensures thrown { IfErr result (λ x. exit_needs x ≡ 0) }
         ensures sound { IsSound A.is_sound A.seen self.new }
     {
@@ -123,10 +123,10 @@ impl<A: Asker> AskedRun<A> {
     /// The value of a name in the frame that declares it.
     pub fn read_name(&mut self, frame: u32, name: &Units) -> Result<Value, Exit>
         requires sound { IsSound A.is_sound A.seen self.old }
-        requires frame { frame < cells (moment_of A.seen self.old) }
-        ensures did { Takes (λ nu. ask (ReadName (nu frame) name.now)) val_in result (moment_of A.seen self.old) (moment_of A.seen self.new) }
-        ensures more { cells (moment_of A.seen self.old) ≤ cells (moment_of A.seen self.new) }
-        ensures exists { IfOk result (λ v. needs v ≤ cells (moment_of A.seen self.new)) }
+        requires frame { frame < cells (moment_of A.seen A.words self.old) }
+        ensures did { Takes (λ nu. ask (ReadName (nu frame) name.now)) val_in result (moment_of A.seen A.words self.old) (moment_of A.seen A.words self.new) }
+        ensures more { cells (moment_of A.seen A.words self.old) ≤ cells (moment_of A.seen A.words self.new) }
+        ensures exists { IfOk result (λ v. needs v ≤ cells (moment_of A.seen A.words self.new)) }
         ensures thrown { IfErr result (λ x. exit_needs x ≡ 0) }
         ensures sound { IsSound A.is_sound A.seen self.new }
     {
@@ -141,10 +141,10 @@ impl<A: Asker> AskedRun<A> {
     /// Sets a name in the frame that declares it.
     pub fn write_name(&mut self, frame: u32, name: &Units, value: Value) -> Result<(), Exit>
         requires sound { IsSound A.is_sound A.seen self.old }
-        requires frame { frame < cells (moment_of A.seen self.old) }
-        requires value { needs value ≤ cells (moment_of A.seen self.old) }
-        ensures did { Takes (λ nu. ask (WriteName (nu frame) name.now (val_in nu value))) (λ nu u. u) result (moment_of A.seen self.old) (moment_of A.seen self.new) }
-        ensures more { cells (moment_of A.seen self.old) ≤ cells (moment_of A.seen self.new) }
+        requires frame { frame < cells (moment_of A.seen A.words self.old) }
+        requires value { needs value ≤ cells (moment_of A.seen A.words self.old) }
+        ensures did { Takes (λ nu. ask (WriteName (nu frame) name.now (val_in nu value))) (λ nu u. u) result (moment_of A.seen A.words self.old) (moment_of A.seen A.words self.new) }
+        ensures more { cells (moment_of A.seen A.words self.old) ≤ cells (moment_of A.seen A.words self.new) }
         ensures thrown { IfErr result (λ x. exit_needs x ≡ 0) }
         ensures sound { IsSound A.is_sound A.seen self.new }
     {
@@ -156,10 +156,10 @@ impl<A: Asker> AskedRun<A> {
     /// Declares a name in a frame.
     pub fn declare(&mut self, frame: u32, name: &Units, value: Value) -> Result<(), Exit>
         requires sound { IsSound A.is_sound A.seen self.old }
-        requires frame { frame < cells (moment_of A.seen self.old) }
-        requires value { needs value ≤ cells (moment_of A.seen self.old) }
-        ensures did { Takes (λ nu. ask (Declare (nu frame) name.now (val_in nu value))) (λ nu u. u) result (moment_of A.seen self.old) (moment_of A.seen self.new) }
-        ensures more { cells (moment_of A.seen self.old) ≤ cells (moment_of A.seen self.new) }
+        requires frame { frame < cells (moment_of A.seen A.words self.old) }
+        requires value { needs value ≤ cells (moment_of A.seen A.words self.old) }
+        ensures did { Takes (λ nu. ask (Declare (nu frame) name.now (val_in nu value))) (λ nu u. u) result (moment_of A.seen A.words self.old) (moment_of A.seen A.words self.new) }
+        ensures more { cells (moment_of A.seen A.words self.old) ≤ cells (moment_of A.seen A.words self.new) }
         ensures thrown { IfErr result (λ x. exit_needs x ≡ 0) }
         ensures sound { IsSound A.is_sound A.seen self.new }
     {
@@ -171,9 +171,9 @@ impl<A: Asker> AskedRun<A> {
     /// The kind of a cell; it touches and costs nothing.
     pub fn kind(&self, cell: u32) -> CellKind
         requires sound { IsSound A.is_sound A.seen self.now }
-        requires cell { cell < cells (moment_of A.seen self.now) }
-        ensures did { Gives (λ nu. ask (KindOf (nu cell))) (λ nu. kind_in nu result) (moment_of A.seen self.now) (moment_of A.seen self.now) }
-        ensures exists { kind_needs result ≤ cells (moment_of A.seen self.now) }
+        requires cell { cell < cells (moment_of A.seen A.words self.now) }
+        ensures did { Gives (λ nu. ask (KindOf (nu cell))) (λ nu. kind_in nu result) (moment_of A.seen A.words self.now) (moment_of A.seen A.words self.now) }
+        ensures exists { kind_needs result ≤ cells (moment_of A.seen A.words self.now) }
     {
         *self.guarded.machine.kind(cell)
     }

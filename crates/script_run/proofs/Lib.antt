@@ -1,1 +1,2 @@
+mod Finishing
 mod Whole

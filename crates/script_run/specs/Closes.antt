@@ -13,7 +13,7 @@ use Rattle.ask_model.specs.declared.AskStop.{AskStop}
 use Rattle.value_cells.specs.Seen.{Naming}
 use Rattle.run_host.specs.declared.Halt.{Halt}
 use Rattle.run_host.specs.Ends.{Like}
-use Rattle.run_host.specs.Moment.{Moment, rest_of, draws_in}
+use Rattle.run_host.specs.Moment.{Moment, Unmade, rest_of, draws_in}
 use Rattle.run_host.specs.Told.{Told, Says, Halts, Fails, IsOut, next_of}
 
 -- A run begins: the script's scope, so much fuel, and nothing done.
@@ -39,8 +39,12 @@ pub record HaltedAt (h : Halt) (τ : St) (w : Rest) (made : List Rec) (e : Res) 
   pub like : Like at τ
   pub closed : e ≡ close (add made (res out at (record w { left = left })))
 
--- What the run e of the whole script came to, as told at the moment m.
+-- What the run e of the whole script came to, as told of it at the state σ, where these records were made and this one was not.
+abbrev pub ClosesAt : World → Unmade → List Rec → Told → St → Rest → Res → Type 0
+ClosesAt E u made (Says o) σ w e = e ≡ close (add made (branch_end o σ w))
+ClosesAt E u made (Halts h) σ w e = HaltedAt h σ w made e
+ClosesAt E u made (Fails why) σ w e = Follows made (next_of E (draws_in made) u why) e
+
+-- the same at a moment
 abbrev pub Closes : World → Told → Naming → Moment → Res → Type 0
-Closes E (Says o) nu m e = e ≡ close (add m.made (branch_end o (m.heap.first nu) (rest_of m)))
-Closes E (Halts h) nu m e = HaltedAt h (m.heap.first nu) (rest_of m) m.made e
-Closes E (Fails why) nu m e = Follows m.made (next_of E (draws_in m.made) m.unmade why) e
+Closes E told nu m e = ClosesAt E m.unmade m.made told (m.heap.first nu) (rest_of m) e

@@ -1,11 +1,33 @@
-//! The run of a whole script.
+//! The run of a whole script: how it ended, what it wrote, and its verdict.
 #![tactic(auto)]
 
-ghost use Rattle.std.specs.Prelude.{◌≡◌};
+mod ends;
 
-/// Nothing.
-pub fn nothing(x: u32) -> u32
-    ensures { result ≡ x }
-{
-    x
+use machine_host::Wait;
+use run_host::Refusal;
+use turk_base::{Units, Verdict};
+
+/// How a run ended.
+#[derive(Drop)]
+pub enum End {
+    /// At its last statement, and no branch is waited for.
+    Finished,
+    /// By a value that was thrown and never caught: the text that is told of it.
+    Uncaught(Units),
+    Refused(Refusal),
+    /// It waits for these, in the order in which they occurred, repeats included.
+    Waiting(Vec<Wait>),
+    /// A charge was past the fuel.
+    Spent,
+}
+
+/// What is told of a run that was not stopped.
+#[derive(Drop)]
+pub struct Ran {
+    pub end: End,
+    /// What was printed and not taken back, each line with its line feed.
+    pub output: Units,
+    pub verdict: Verdict,
+    /// How many forks took an index.
+    pub forks: u64,
 }

@@ -9,4 +9,4 @@ use Rattle.machine_host.proofs.AskedRun.kind.Goals as goal
 pub returns-clause-did : goal.returns-clause-did
 returns-clause-did g c =
     let d = c.kind.ensures.did in
-    looked (λ (nu : Naming). ask (KindOf (nu c.args.cell))) (λ nu. steps_of (KindOf (nu c.args.cell))) (λ nu. asks_of (KindOf (nu c.args.cell))) _ (moment_of g.A.Asker.seen c.args.self.now) (record { stays = d.stays; did = d.did })
+    looked (λ (nu : Naming). ask (KindOf (nu c.args.cell))) (λ nu. steps_of (KindOf (nu c.args.cell))) (λ nu. asks_of (KindOf (nu c.args.cell))) _ (moment_of g.A.Asker.seen g.A.Asker.words c.args.self.now) (record { stays = d.stays; did = d.did })

@@ -8,5 +8,5 @@ use Rattle.machine_host.proofs.AskedRun.make.Goals as goal
 pub returns-clause-did : goal.returns-clause-did
 returns-clause-did g c =
     let d = c.make-answer.ensures.did in
-    request (λ (nu : Naming). ask (Make (kind_in nu c.args.kind))) (λ nu. steps_of (Make (kind_in nu c.args.kind))) (λ nu. asks_of (Make (kind_in nu c.args.kind))) (λ nu i. nu i) g.A.Asker.seen c.args.self.now c.make-answer.new.self c.make-answer.result c.answer_of.result c.answer_of.ensures
+    request (λ (nu : Naming). ask (Make (kind_in nu c.args.kind))) (λ nu. steps_of (Make (kind_in nu c.args.kind))) (λ nu. asks_of (Make (kind_in nu c.args.kind))) (λ nu i. nu i) g.A.Asker.seen g.A.Asker.words c.args.self.now c.make-answer.new.self c.make-answer.result c.answer_of.result c.answer_of.ensures
     (record { stays = d.stays; did = d.did }) c.make-answer.ensures.gone

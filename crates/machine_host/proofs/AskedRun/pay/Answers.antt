@@ -10,7 +10,7 @@ use Rattle.machine_host.proofs.AskedRun.pay.Goals as goal
 pub returns-clause-did : goal.returns-clause-did
 returns-clause-did g c =
     let d = c.pay-answer.ensures.did in
-    request (λ (nu : Naming). ask (Pay c.args.units)) (λ nu. steps_of (Pay c.args.units)) (λ nu. asks_of (Pay c.args.units)) (λ nu u. u) g.A.Asker.seen c.args.self.now c.pay-answer.new.self c.pay-answer.result c.answer_of.result c.answer_of.ensures
+    request (λ (nu : Naming). ask (Pay c.args.units)) (λ nu. steps_of (Pay c.args.units)) (λ nu. asks_of (Pay c.args.units)) (λ nu u. u) g.A.Asker.seen g.A.Asker.words c.args.self.now c.pay-answer.new.self c.pay-answer.result c.answer_of.result c.answer_of.ensures
     (record { stays = d.stays; did = d.did }) c.pay-answer.ensures.gone
 
 pub returns-clause-spent : goal.returns-clause-spent

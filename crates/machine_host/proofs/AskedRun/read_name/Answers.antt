@@ -9,7 +9,7 @@ use Rattle.machine_host.proofs.AskedRun.read_name.Goals as goal
 pub returns-clause-did : goal.returns-clause-did
 returns-clause-did g c =
     let d = c.read_name-answer.ensures.did in
-    request (λ (nu : Naming). ask (ReadName (nu c.args.frame) c.args.name.now)) (λ nu. steps_of (ReadName (nu c.args.frame) c.args.name.now)) (λ nu. asks_of (ReadName (nu c.args.frame) c.args.name.now)) (val_in) g.A.Asker.seen c.args.self.now c.read_name-answer.new.self c.read_name-answer.result c.answer_of.result c.answer_of.ensures
+    request (λ (nu : Naming). ask (ReadName (nu c.args.frame) c.args.name.now)) (λ nu. steps_of (ReadName (nu c.args.frame) c.args.name.now)) (λ nu. asks_of (ReadName (nu c.args.frame) c.args.name.now)) (val_in) g.A.Asker.seen g.A.Asker.words c.args.self.now c.read_name-answer.new.self c.read_name-answer.result c.answer_of.result c.answer_of.ensures
     (record { stays = d.stays; did = d.did }) c.read_name-answer.ensures.gone
 
 pub returns-then-not-has-clause-did : goal.returns-then-not-has-clause-did

@@ -8,5 +8,5 @@ use Rattle.machine_host.proofs.AskedRun.write_name.Goals as goal
 pub returns-clause-did : goal.returns-clause-did
 returns-clause-did g c =
     let d = c.set_name-answer.ensures.did in
-    request (λ (nu : Naming). ask (WriteName (nu c.args.frame) c.args.name.now (val_in nu c.args.value))) (λ nu. steps_of (WriteName (nu c.args.frame) c.args.name.now (val_in nu c.args.value))) (λ nu. asks_of (WriteName (nu c.args.frame) c.args.name.now (val_in nu c.args.value))) (λ nu u. u) g.A.Asker.seen c.args.self.now c.set_name-answer.new.machine c.set_name-answer.result c.answer_of.result c.answer_of.ensures
+    request (λ (nu : Naming). ask (WriteName (nu c.args.frame) c.args.name.now (val_in nu c.args.value))) (λ nu. steps_of (WriteName (nu c.args.frame) c.args.name.now (val_in nu c.args.value))) (λ nu. asks_of (WriteName (nu c.args.frame) c.args.name.now (val_in nu c.args.value))) (λ nu u. u) g.A.Asker.seen g.A.Asker.words c.args.self.now c.set_name-answer.new.machine c.set_name-answer.result c.answer_of.result c.answer_of.ensures
     (record { stays = d.stays; did = d.did }) c.set_name-answer.ensures.gone
