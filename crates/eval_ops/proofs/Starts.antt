@@ -17,7 +17,7 @@ use Rattle.run_heap.specs.Begins.{first_names, Begins}
 use Rattle.run_heap.specs.Works.{Works}
 use Rattle.eval_ops.specs.Run.{Run, stands, around, seen_of}
 use Rattle.eval_ops.specs.Stored.{IsRun, HasRoom}
-use Rattle.eval_ops.specs.Calls.{at_start}
+use Rattle.eval_ops.specs.Calls.{at_start, IsBare}
 
 module _ (fuel : ℕ) (old new : Core) (b : Begins fuel old) (r : Rests old new) where
   abbrev pub begun : Run
@@ -54,3 +54,31 @@ module _ (fuel : ℕ) (old new : Core) (b : Begins fuel old) (r : Rests old new)
 
   pub begun_room : (n : ℕ) → HasRoom begun n
   begun_room n = record { kept = λ i o e. cc; now = λ p e. cc }
+
+module _ (fuel : ℕ) (h : Core) (b : Begins fuel h) where
+  abbrev pub bare : Run
+  bare = record { heap = h; body = false; values = []; text = []; gone = []; outer = []; left_back = None }
+
+  pub bare_run : IsRun bare
+  bare_run = record {
+    values = omega arith;
+    kept_values = λ i o cells e f. cc;
+    as_many = sym (ap length b.outer);
+    printed = λ i o e. cc;
+    absent = λ i o e. cc;
+    ordered = λ i j o p l e f. cc;
+  }
+
+  pub bare_room : (n : ℕ) → HasRoom bare n
+  bare_room n = record { kept = λ i o e. cc; now = λ p e. cc }
+
+  pub is_bare : IsBare fuel (seen_of bare)
+  is_bare = record {
+    names = b.names;
+    first = λ nu f. (λ i. placed nu h (stands (b.calls i) [] [] [] nu)) ∙ b.first nu (subst (λ ns. Fits nu ns) b.names f);
+    path = ap path_in b.path;
+    branch = ap path_in b.branch;
+    body = refl;
+    outer = refl;
+    left = b.left;
+  }

@@ -24,6 +24,16 @@ at_start fuel = record {
   left = fuel;
 }
 
+-- A run begins: the built-in cells alone, the script's scope, and so much fuel.
+pub record IsBare (fuel : ℕ) (s : Seen) : Type 0 where
+  pub names : s.names ≡ first_names
+  pub first : (nu : Naming) → Fits nu s.names → s.first nu ≡ start
+  pub path : s.scope.path ≡ root
+  pub branch : s.scope.branch ≡ root
+  pub body : s.scope.body ≡ false
+  pub outer : s.outer ≡ []
+  pub left : s.left ≡ fuel
+
 -- The first part of the state is f of what it was, and all else is as before.
 pub record Changes (f : Naming → St → St) (old new : Seen) : Type 0 where
   pub names : new.names ≡ old.names

@@ -3,3 +3,4 @@ pub mod Guards
 pub mod Moments
 pub mod Runs
 pub mod Sound
+pub mod Starts

@@ -10,7 +10,10 @@ use turk_base::{Data, Name, Path, Units, Whole};
 
 mod exits;
 mod guarded;
+mod parts;
 mod requests;
+
+pub use parts::Parts;
 
 /// What a run waits for: a task's reply, or nothing, where it crashed in that scope.
 #[derive(Drop)]
