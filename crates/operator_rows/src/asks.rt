@@ -20,7 +20,7 @@ use value_rows::asks::{draw_below, posted, reply_to};
 
 /// `post`: the argument's text is asked of people as a task; the answer is the task's token, as a text.
 ///
-/// The text is paid before the task is posted, and the token after it.
+/// A text that had to be made of the argument is paid before the task is posted; the token is paid after it.
 pub fn post<
     H: Host,
     E: Fn(Global, &Codes, u32, &mut H, Here, &Expr) -> Result<Value, Exit>,
