@@ -1,18 +1,18 @@
 //! Calls of functions (ECMA-262 3rd ed. 11.2.3, 13.2.1).
-ghost use Rattle.std.specs.Prelude.{◌≡◌, ◌<◌, ◌≤◌, IfOk, IfErr, List, map, Some};
+ghost use Rattle.std.specs.Prelude.{◌<◌, ◌≤◌, IfOk, IfErr, map, Some};
 ghost use Rattle.std.specs.List.{slice_get};
 ghost use Rattle.std.specs.Option.{option_map};
 ghost use Rattle.turk_base.specs.Values.{Undefined};
-ghost use Rattle.turk_base.specs.Prog.{Prog, KindOf, Ask, value};
+ghost use Rattle.turk_base.specs.Prog.{KindOf, Ask};
 ghost use Rattle.js_tree.specs.Rows.{expr_to, stmt_to};
 ghost use Rattle.js_tree.specs.Calls as calls;
-ghost use Rattle.js_tree.specs.Calls.{Code, call_kind, called};
-ghost use Rattle.js_tree.specs.Pieces.{Here as Spot, get_place};
+ghost use Rattle.js_tree.specs.Calls.{call_kind};
+ghost use Rattle.js_tree.specs.Pieces.{get_place};
 ghost use Rattle.js_tree.specs.Expressions.{call_row};
 ghost use Rattle.value_cells.specs.Needs.{needs, option_needs, all_needs, number_needs};
-ghost use Rattle.value_cells.specs.Seen.{Naming, val_in};
+ghost use Rattle.value_cells.specs.Seen.{val_in};
 ghost use Rattle.run_host.specs.Moment.{cells};
-ghost use Rattle.run_host.specs.Told.{told_value, told_flow, flow_in, this_in, here_in, here_needs, flow_needs, exit_needs};
+ghost use Rattle.run_host.specs.Told.{told_value, this_in, here_in, here_needs, exit_needs};
 ghost use Rattle.run_host.specs.Did.{Runs};
 ghost use Rattle.host_steps.specs.Places.{place_in, place_needs};
 ghost use Rattle.tree_rows.specs.Codes.{code_in, table_in};

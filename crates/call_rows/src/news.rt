@@ -1,25 +1,20 @@
 //! `new` (ECMA-262 3rd ed. 11.2.2, 13.2.2).
-ghost use Rattle.std.specs.Prelude.{◌≡◌, ◌<◌, ◌≤◌, ℕ, IfOk, IfErr, List, map, codes as word, ◌==◌, if◌then◌else◌};
-ghost use Rattle.turk_base.specs.Values.{Undefined, Function};
-ghost use Rattle.turk_base.specs.Prog.{Prog};
-ghost use Rattle.turk_base.specs.Errors.{type_error};
-ghost use Rattle.turk_base.specs.BuiltIns.{call_built_in};
+ghost use Rattle.std.specs.Prelude.{◌<◌, ◌≤◌, IfOk, IfErr, map};
+ghost use Rattle.turk_base.specs.Values.{Function};
 ghost use Rattle.js_tree.specs.Rows.{expr_to, stmt_to};
 ghost use Rattle.js_tree.specs.Calls as calls;
-ghost use Rattle.js_tree.specs.Calls.{Code, construct_kind, constructed};
-ghost use Rattle.js_tree.specs.Pieces.{Here as Spot};
+ghost use Rattle.js_tree.specs.Calls.{construct_kind};
 ghost use Rattle.js_tree.specs.Expressions.{new_row};
 ghost use Rattle.value_cells.specs.Needs.{needs, all_needs};
-ghost use Rattle.value_cells.specs.Seen.{Naming, val_in};
+ghost use Rattle.value_cells.specs.Seen.{val_in};
 ghost use Rattle.run_host.specs.Moment.{cells};
-ghost use Rattle.run_host.specs.Told.{told_value, told_exit, here_in, here_needs, exit_needs};
+ghost use Rattle.run_host.specs.Told.{told_value, here_in, here_needs, exit_needs};
 ghost use Rattle.run_host.specs.Did.{Runs};
 ghost use Rattle.tree_rows.specs.Codes.{table_in};
 ghost use Rattle.tree_rows.specs.Nests.{Nests};
 
 use crate::calls::call_code;
 use call_steps::ends::{construct_built_in, kept, no_constructor};
-use host_steps::errors::type_error_of;
 use host_steps::literals::prototype_key;
 use host_steps::places::get_place;
 use js_tree::{Expr, Stmt};

@@ -1,14 +1,11 @@
 //! `print` (own rules).
-ghost use Rattle.std.specs.Prelude.{◌≡◌, ◌≤◌, IfOk, IfErr, map, ◌++◌, ◌∷◌};
-ghost use Rattle.js_tree.specs.Rows.{expr_to, stmt_to};
-ghost use Rattle.js_tree.specs.ScriptCalls as calls;
+ghost use Rattle.std.specs.Prelude.{◌≤◌, IfOk, IfErr};
+ghost use Rattle.js_tree.specs.Rows.{expr_to};
 ghost use Rattle.js_tree.specs.ScriptCalls.{print_row};
 ghost use Rattle.value_cells.specs.Needs.{needs};
-ghost use Rattle.value_cells.specs.Seen.{val_in};
 ghost use Rattle.run_host.specs.Moment.{cells};
 ghost use Rattle.run_host.specs.Told.{told_value, here_in, here_needs, exit_needs};
 ghost use Rattle.run_host.specs.Did.{Runs};
-ghost use Rattle.run_host.specs.Steps.{Takes};
 ghost use Rattle.tree_rows.specs.Codes.{table_in};
 ghost use Rattle.tree_rows.specs.Nests.{Nests};
 
@@ -17,7 +14,6 @@ use js_tree::{Expr, Stmt};
 use run_host::{Exit, Flow, Here, Host};
 use std::alloc::Global;
 use tree_rows::{Below, Codes};
-use turk_base::{NoMemory, Units};
 use value_cells::Value;
 
 /// `print`: all arguments, then their texts, then one line of these with a space between; it gives undefined. Where an

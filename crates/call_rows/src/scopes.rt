@@ -1,12 +1,11 @@
 //! `once` and `fork`: calls in a scope of their own (own rules).
-ghost use Rattle.std.specs.Prelude.{◌≡◌, ◌<◌, ◌≤◌, IfOk, IfErr, []};
+ghost use Rattle.std.specs.Prelude.{◌<◌, ◌≤◌, IfOk, IfErr, []};
 ghost use Rattle.turk_base.specs.Values.{Undefined, Object};
 ghost use Rattle.turk_base.specs.Prog.{Once, Fork};
 ghost use Rattle.js_tree.specs.Rows.{expr_to, stmt_to};
 ghost use Rattle.js_tree.specs.Calls as calls;
 ghost use Rattle.js_tree.specs.ScriptCalls.{once_row, fork_row};
 ghost use Rattle.value_cells.specs.Needs.{needs};
-ghost use Rattle.value_cells.specs.Seen.{val_in};
 ghost use Rattle.run_host.specs.Moment.{cells};
 ghost use Rattle.run_host.specs.Told.{told_value, here_in, here_needs, exit_needs};
 ghost use Rattle.run_host.specs.Did.{Runs};

@@ -1,6 +1,6 @@
 //! The rows of the asks: `post`, `reply`, `prompt` and `random` (own rules).
-ghost use Rattle.std.specs.Prelude.{◌≡◌, ◌<◌, ◌≤◌, IfOk, IfErr};
-ghost use Rattle.js_tree.specs.Rows.{expr_to, stmt_to};
+ghost use Rattle.std.specs.Prelude.{◌<◌, ◌≤◌, IfOk, IfErr};
+ghost use Rattle.js_tree.specs.Rows.{expr_to};
 ghost use Rattle.js_tree.specs.ScriptCalls.{post_row, reply_row, prompt_row, random_row};
 ghost use Rattle.value_cells.specs.Needs.{needs};
 ghost use Rattle.run_host.specs.Moment.{cells};

@@ -1,6 +1,6 @@
 //! The rows of operators on values (ECMA-262 3rd ed. 11.4 to 11.10).
-ghost use Rattle.std.specs.Prelude.{◌≡◌, ◌<◌, ◌≤◌, IfOk, IfErr};
-ghost use Rattle.js_tree.specs.Rows.{expr_to, stmt_to};
+ghost use Rattle.std.specs.Prelude.{◌<◌, ◌≤◌, IfOk, IfErr};
+ghost use Rattle.js_tree.specs.Rows.{expr_to};
 ghost use Rattle.js_tree.specs.Expressions.{typeof_row, unary_row, binary_row};
 ghost use Rattle.value_cells.specs.Needs.{needs};
 ghost use Rattle.run_host.specs.Moment.{cells};
