@@ -60,6 +60,7 @@ impl<A: Asker> AskedRun<A> {
         ensures forks { result.forks ≡ (moment_of A.seen A.words self).forks }
         ensures waits { map wait_in result.waits.items ≡ (moment_of A.seen A.words self).waits }
         ensures trace { records_of (A.seen result.asker).trace ≡ (moment_of A.seen A.words self).trace }
+        ensures replies { (A.seen result.asker).replies ≡ (moment_of A.seen A.words self).pairs }
         ensures made { records_of (A.seen result.asker).made ≡ (moment_of A.seen A.words self).made }
         ensures sound { A.is_sound result.asker }
     {

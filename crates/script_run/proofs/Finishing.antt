@@ -14,10 +14,13 @@ use Rattle.js_tree.specs.Report.{EndOfRun, end_of, uncaught_text}
 use Rattle.run_laws.proofs.Fronts.{front}
 use Rattle.ask_model.specs.declared.Divergence.{Divergence}
 use Rattle.ask_model.specs.declared.AskStop.TheVariants as stop
+use Rattle.value_cells.specs.Seen.{Naming}
+use Rattle.run_host.specs.declared.Exit.{Exit}
+use Rattle.run_host.specs.declared.Flow.{Flow}
 use Rattle.run_host.specs.declared.Halt.{Halt}
 use Rattle.run_host.specs.declared.Halt.TheVariants as halt
 use Rattle.run_host.specs.Moment.{Unmade}
-use Rattle.run_host.specs.Told.{IsOut}
+use Rattle.run_host.specs.Told.{IsOut, GoesOn, told_flow}
 use Rattle.script_run.specs.declared.End as told
 use Rattle.script_run.specs.declared.End.TheVariants as end
 use Rattle.script_run.specs.Closes.{HaltedAt}
@@ -69,3 +72,6 @@ if_err (Err y) f h = f y h
 -- the scope that runs is the script's
 pub at_root : {p : Path} {absent : Bool} (σ : St) → p ≡ root → absent ≡ any_gone p σ.gone → any_gone root σ.gone ≡ absent
 at_root σ e h = ap (λ p. any_gone p σ.gone) (sym e) ∙ sym h
+
+pub goes : (nu : Naming) (r : Result Flow Exit) (f : Flow) → r ≡ Ok f → GoesOn (told_flow nu r)
+goes nu r f e = subst (λ (r : Result Flow Exit). GoesOn (told_flow nu r)) (sym e) tt

@@ -18,7 +18,9 @@ use Rattle.run_host.specs.Moment.{Moment, Suits, Clear, place, rest_of, draws_in
 use Rattle.run_host.specs.Told.{Told, next_of}
 use Rattle.run_host.specs.Ends.{Comes, says, halts, fails}
 use Rattle.run_host.specs.Did.{Runs}
-use Rattle.script_run.specs.Closes.{Begins, Closes}
+use Rattle.machine_host.specs.Starts.{Begins}
+use Rattle.run_host.proofs.Moments.{fits_before}
+use Rattle.script_run.specs.Closes.{Closes}
 
 -- a run that is closed made as much, and is undrawn as before
 follows_closed : (m : List Rec) (x : Next) (e : Res) → Follows m x e → Follows m x (close e)
@@ -41,9 +43,9 @@ closes_by new _ (says e) = ap close (e.holds branch_end)
 closes_by new _ (halts h) = record { out = h.out; is = h.is; at = h.at; left = h.left; like = h.like; closed = ap close (h.stops.holds branch_end) }
 closes_by new _ (fails c) = follows_closed _ _ _ (c.holds branch_end)
 
-pub whole : {S : Prog} {told : Naming → Told} {session : Units} {T : List Rec} {pairs : List (Units × Units)} {n : ℕ} {old new : Moment} →
-    Begins session T pairs n old → Runs (λ nu. S) told old new → (nu : Naming) → Fits nu new.heap.names → (E : World) → Suits E new → Closes E (told nu) nu new (eval S E T n)
-whole {S} {told} {session} {T} {pairs} {n} {old} {new} b r nu f E s = closes_by new (told nu) (subst (λ l. Comes (at_root E T n) S start (fuel n) l next (told nu) (new.heap.first nu) (rest_of new)) (sym made) began)
+pub whole : {S : Prog} {told : Naming → Told} {session : Units} {T : List Rec} {pairs : List (Units × Units)} {n : ℕ} {words : ℕ → ℕ} {old new : Moment} →
+    Begins session T pairs n words old → Runs (λ nu. S) told old new → (nu : Naming) → Fits nu new.heap.names → (E : World) → Suits E new → Closes E (told nu) nu new (eval S E T n)
+whole {S} {told} {session} {T} {pairs} {n} {words} {old} {new} b r nu f E s = closes_by new (told nu) (subst (λ l. Comes (at_root E T n) S start (fuel n) l next (told nu) (new.heap.first nu) (rest_of new)) (sym made) began)
   where
     next : AskStop → Next
     next = next_of E (draws_in new.made) new.unmade
@@ -65,6 +67,6 @@ whole {S} {told} {session} {T} {pairs} {n} {old} {new} b r nu f E s = closes_by 
 
     began : Comes (at_root E T n) S start (fuel n) r.added next (told nu) (new.heap.first nu) (rest_of new)
     began = subst (λ p. Comes p S start (fuel n) r.added next (told nu) (new.heap.first nu) (rest_of new)) here
-        (subst (λ σ. Comes (place E (suc n) old) S σ (fuel n) r.added next (told nu) (new.heap.first nu) (rest_of new)) (b.first nu)
+        (subst (λ σ. Comes (place E (suc n) old) S σ (fuel n) r.added next (told nu) (new.heap.first nu) (rest_of new)) (b.first nu (fits_before r.same.grows f))
         (subst (λ w. Comes (place E (suc n) old) S (old.heap.first nu) w r.added next (told nu) (new.heap.first nu) (rest_of new)) rest
         (r.ran nu f E s (suc n) (let l = b.left in omega (arith, l)) clear)))

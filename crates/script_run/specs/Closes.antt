@@ -1,7 +1,5 @@
 -- What the run of a whole script comes to, by what an evaluator told of it.
-use Rattle.std.specs.Prelude.{◌≡◌, ℕ, Bool, false, List, []}
-use Rattle.turk_base.specs.Names.{Units, root}
-use Rattle.turk_base.specs.Start.{start}
+use Rattle.std.specs.Prelude.{◌≡◌, ℕ, List}
 use Rattle.turk_base.specs.State.{St}
 use Rattle.turk_base.specs.Values.{Outcome}
 use Rattle.turk_base.specs.Asks.{Rec}
@@ -15,20 +13,6 @@ use Rattle.run_host.specs.declared.Halt.{Halt}
 use Rattle.run_host.specs.Ends.{Like}
 use Rattle.run_host.specs.Moment.{Moment, Unmade, rest_of, draws_in}
 use Rattle.run_host.specs.Told.{Told, Says, Halts, Fails, IsOut, next_of}
-
--- A run begins: the script's scope, so much fuel, and nothing done.
-pub record Begins (session : Units) (trace : List Rec) (pairs : List (Units × Units)) (fuel : ℕ) (m : Moment) : Type 0 where
-  pub first : (nu : Naming) → m.heap.first nu ≡ start
-  pub path : m.heap.scope.path ≡ root
-  pub branch : m.heap.scope.branch ≡ root
-  pub body : m.heap.scope.body ≡ false
-  pub left : m.heap.left ≡ fuel
-  pub forks : m.forks ≡ 0
-  pub waits : m.waits ≡ []
-  pub session_is : m.session ≡ session
-  pub trace_is : m.trace ≡ trace
-  pub pairs_are : m.pairs ≡ pairs
-  pub made : m.made ≡ []
 
 -- The run halted, with what is told of the state that it left, or of one that is like it.
 pub record HaltedAt (h : Halt) (τ : St) (w : Rest) (made : List Rec) (e : Res) : Type 0 where

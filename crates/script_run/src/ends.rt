@@ -1,22 +1,24 @@
 //! How a run ended, by how its last statement did.
-ghost use Rattle.std.specs.Prelude.{◌≡◌, ◌≤◌, true, false, List, map, IfOk, IfErr};
-ghost use Rattle.turk_base.specs.Names.{root};
+ghost use Rattle.std.specs.Prelude.{◌≡◌, ◌≤◌, ℕ, true, false, List, map, IfOk, IfErr};
+ghost use Rattle.turk_base.specs.Names.{Units, root};
 ghost use Rattle.turk_base.specs.Asks.{Rec};
 ghost use Rattle.turk_base.specs.State.{St, any_gone};
 ghost use Rattle.turk_base.specs.Values.{Throw};
+ghost use Rattle.js_tree.specs.declared.Script.{Script};
 ghost use Rattle.js_tree.specs.World.{World, Rest};
+ghost use Rattle.ask_model.specs.Asker.{Seen as Asked};
 ghost use Rattle.js_tree.specs.Run.{Res};
 ghost use Rattle.value_cells.specs.Seen.{Naming, Fits, val_in};
 ghost use Rattle.value_cells.specs.Needs.{needs};
 ghost use Rattle.eval_ops.specs.Run.{seen_of, count};
 ghost use Rattle.run_host.specs.Moment as moment;
-ghost use Rattle.run_host.specs.Told.{Says, flow_in, told_flow, exit_needs};
+ghost use Rattle.run_host.specs.Told.{Says, Halts, GoesOn, flow_in, told_flow, exit_needs};
 ghost use Rattle.machine_host.specs.Moments.{wait_in};
 ghost use Rattle.script_run.specs.Closes.{ClosesAt, HaltedAt};
 ghost use Rattle.script_run.specs.declared.End.TheVariants as spec;
-ghost use Rattle.script_run.specs.Tells.{EndIs, StopIs};
+ghost use Rattle.script_run.specs.Tells.{EndIs, StopIs, IsCome, IsRan, IsStopped};
 
-use crate::End;
+use crate::{End, Ran};
 use ask_model::AskStop;
 use eval_ops::Machine;
 use machine_host::Wait;
@@ -63,7 +65,7 @@ fn thrown(
 /// How a run ended that halted.
 fn halted(absent: bool, waits: Vec<Wait>, halt: Halt) -> Result<End, AskStop>
     ensures ended { IfOk result (λ end. (σ : St) (w : Rest) (made : List Rec) (e : Res)
-        → any_gone root σ.gone ≡ absent → w.waits ≡ map wait_in waits.items → HaltedAt halt σ w made e → EndIs end e) }
+        → (GoesOn (Halts halt) → any_gone root σ.gone ≡ absent) → w.waits ≡ map wait_in waits.items → HaltedAt halt σ w made e → EndIs end e) }
     ensures stopped { IfErr result (λ why. (E : World) (u : moment.Unmade) (σ : St) (w : Rest) (made : List Rec) (e : Res) → HaltedAt halt σ w made e → StopIs E u made e why) }
 {
     match halt {
@@ -75,14 +77,15 @@ fn halted(absent: bool, waits: Vec<Wait>, halt: Halt) -> Result<End, AskStop>
 }
 
 /// How a run ended, where its last statement ended so and these were waited for. Where a branch is absent at its end, the
-/// run waits. The machine is in the script's scope; what it knows of open slots is not kept.
-pub fn end_of(
+/// run waits. The machine is in the script's scope, unless the run ended there for good; what it knows of open slots is not
+/// kept.
+fn end_of(
     alloc: Global,
     machine: &mut Machine,
     waits: Vec<Wait>,
     flow: Result<Flow, Exit>,
 ) -> Result<End, AskStop>
-    requires scope { (seen_of machine.old).scope.path ≡ root }
+    requires scope { (nu : Naming) → GoesOn (told_flow nu flow) → (seen_of machine.old).scope.path ≡ root }
     requires thrown { IfErr flow (λ x. exit_needs x ≤ count machine.old) }
     ensures ended { IfOk result (λ end. (nu : Naming) → Fits nu (seen_of machine.new).names → (E : World) (u : moment.Unmade) (made : List Rec) (w : Rest) (e : Res)
         → w.waits ≡ map wait_in waits.items → ClosesAt E u made (told_flow nu flow) ((seen_of machine.old).first nu) w e → EndIs end e) }
@@ -96,4 +99,35 @@ pub fn end_of(
         Err(Exit::Halted(halt)) => halted(absent, waits, halt),
         Err(Exit::Stopped(why)) => Err(why),
     }
+}
+
+/// What is told of a run that came to its end so.
+pub fn told(
+    alloc: Global,
+    machine: Machine,
+    forks: u64,
+    waits: Vec<Wait>,
+    flow: Result<Flow, Exit>,
+) -> Result<Ran, AskStop>
+    requires scope { (nu : Naming) → GoesOn (told_flow nu flow) → (seen_of machine).scope.path ≡ root }
+    requires thrown { IfErr flow (λ x. exit_needs x ≤ count machine) }
+    ensures told { (S : Script) (session : Units) (old new : Asked) (fuel : ℕ) → IsCome S session old new fuel forks waits.items (seen_of machine) flow
+        → IfOk result (λ ran. IsRan S session old new fuel ran) }
+    ensures stopped { (S : Script) (session : Units) (old new : Asked) (fuel : ℕ) → IsCome S session old new fuel forks waits.items (seen_of machine) flow
+        → IfErr result (λ why. IsStopped S session old new fuel why) }
+{
+    let mut machine = machine;
+    let Ok(output) = machine.output().copy(alloc) else {
+        return Err(AskStop::Memory);
+    };
+    let Ok(verdict) = machine.names(alloc) else {
+        return Err(AskStop::Memory);
+    };
+    let end = end_of(alloc, &mut machine, waits, flow)?;
+    Ok(Ran {
+        end,
+        output,
+        verdict,
+        forks,
+    })
 }

@@ -2,7 +2,9 @@
 #![tactic(auto)]
 
 mod ends;
+mod start;
 
+use ask_model::AskStop;
 use machine_host::Wait;
 use run_host::Refusal;
 use turk_base::{Units, Verdict};
@@ -30,4 +32,10 @@ pub struct Ran {
     pub verdict: Verdict,
     /// How many forks took an index.
     pub forks: u64,
+}
+
+/// The answer of a run, and the asker that it ran over.
+pub struct Ended<A> {
+    pub answer: Result<Ran, AskStop>,
+    pub asker: A,
 }
