@@ -1,5 +1,5 @@
 -- Data taken, from the steps that the code did.
-use Rattle.std.proofs.Common.{◌≡◌, refl, ap, sym, ◌∙◌, subst, ℕ, zero, suc, true, List, [], ◌∷◌, ◌++◌, length, Option, Some, None, option_map, decimal}
+use Rattle.std.proofs.Common.{◌≡◌, refl, ap, sym, ◌∙◌, subst, ℕ, zero, suc, ◌<◌, slice_get, true, map, List, [], ◌∷◌, ◌++◌, length, Option, Some, None, option_map, decimal}
 use Rattle.std.specs.Prelude.{Result, Ok, Err}
 use Rattle.turk_base.specs.Names.{Path, path_in, Name}
 use Rattle.turk_base.specs.Values as model
@@ -12,7 +12,19 @@ use Rattle.value_cells.specs.declared.Value.{Value}
 use Rattle.value_cells.specs.declared.OpStop.{OpStop}
 use Rattle.value_cells.specs.Comes.{Comes, stops, then_goes, comes}
 use Rattle.value_cells.specs.Seen.{Naming, val_in}
-use Rattle.value_cells.specs.Does.{Told, Says, Refuses, told, told_stop, Did, comes_from}
+use Rattle.value_cells.specs.Does.{Told, Says, Refuses, Fails, told, told_stop, Did, comes_from}
+use Rattle.value_cells.specs.declared.OpStop.TheVariants.{Memory}
+use Rattle.value_cells.specs.declared.CellKind.{CellKind}
+use Rattle.value_cells.specs.Held.{kinds_of, IsWhole}
+use Rattle.value_cells.specs.Seen.{kind_in}
+use Rattle.std.specs.Result.{IsErrAnd}
+use Rattle.turk_base.specs.Prog.{ReadName}
+use Rattle.turk_base.specs.Steps.{steps_of, take}
+use Rattle.run_heap.specs.Core.{count, names_in, Rests}
+use Rattle.run_heap.specs.Placed.{chain_of}
+use Rattle.run_heap.proofs.Chains.{works_known}
+use Rattle.run_heap.proofs.Putting.{works_refuse}
+use Rattle.run_heap.proofs.Turn.{Keeps, works_fails}
 use Rattle.run_heap.specs.Core.{Core}
 use Rattle.run_heap.specs.Placed.{placed, seen_in}
 use Rattle.run_heap.specs.Works.{Works}
@@ -223,3 +235,47 @@ module _ (one : Val → Small Data) (i : ℕ) (ks : List (List ℕ)) (s p t : Co
         paid_then 1 (λ nu. edit (nu i) list (λ ks. bind (take_fields one (nu i) ks) (λ ds. give (DFields ds)))) (λ nu. told_taken (λ v. DFields (f v)) r) s p last paid
         (works_then (λ nu. step (change true (nu i) list) give) (λ nu. ks) (λ nu ks. bind (take_fields one (nu i) ks) (λ ds. give (DFields ds))) (λ nu. told_taken (λ v. DFields (f v)) r) p t last listed
         (works_told (λ nu. take_fields one (nu i) ks) f DFields r t last x))
+
+    pub plain_told : {V : Type 0} (f : V → Fields) (g : V → Data) (r : Result (Option V) OpStop) (last : Core) → ((v : V) → g v ≡ DFields (f v)) → Works (λ nu. take_fields one (nu i) ks) (λ nu. told_taken f r) t last
+        → Works (λ nu. take_cell one (nu i) (model.Plain (proto nu))) (λ nu. told_taken g r) s last
+    plain_told {V} f g r last h x = let same : g ≡ (λ v. DFields (f v)) = λ y v. h v y in subst (λ (g : V → Data). Works (λ nu. take_cell one (nu i) (model.Plain (proto nu))) (λ nu. told_taken g r) s last) (sym same) (plain_on f r last x)
+
+  module _ (o : Option Value) (u : Core) (read : Works (λ nu. step (change true (nu i) (look length_key)) give) (λ nu. Says (option_map (val_in nu) o)) t u) where
+    pub array_none : ((nu : Naming) → None ≡ just_elements (without_length Array ks) (option_map (val_in nu) o)) → Works (λ nu. take_cell one (nu i) Array) (λ nu. Refuses model.NotData) s u
+    array_none h =
+        array_on o (λ nu. Refuses model.NotData) u u read
+        (let same : (λ (nu : Naming). refuse model.NotData) ≡ (λ (nu : Naming). with_length nu (option_map (val_in nu) o)) = λ x nu. take_list one (nu i) (h nu x) in
+        subst (λ (g : Naming → Small Data). Works g (λ nu. Refuses model.NotData) u u) same (works_refuse model.NotData u))
+
+    pub array_told : {V : Type 0} (n : ℕ) (f : V → Items) (r : Result (Option V) OpStop) (last : Core) → ((nu : Naming) → Some n ≡ just_elements (without_length Array ks) (option_map (val_in nu) o))
+        → Works (λ nu. take_items one (nu i) 0 n) (λ nu. told_taken f r) u last → Works (λ nu. take_cell one (nu i) Array) (λ nu. told_taken (λ v. DList (f v)) r) s last
+    array_told n f r last h x =
+        array_on o (λ nu. told_taken (λ v. DList (f v)) r) u last read
+        (let same : (λ (nu : Naming). bind (take_items one (nu i) 0 n) (λ ds. give (DList ds))) ≡ (λ (nu : Naming). with_length nu (option_map (val_in nu) o)) = λ x nu. take_list one (nu i) (h nu x) in
+        subst (λ (g : Naming → Small Data). Works g (λ nu. told_taken (λ v. DList (f v)) r) u last) same (works_told (λ nu. take_items one (nu i) 0 n) f DList r u last x))
+
+-- ---- exits
+
+pub taken_err : {V A : Type 0} (g : Naming → Small A) (f : V → A) (r : Result (Option V) OpStop) (x : OpStop) (s t : Core) → IsErrAnd r (λ e. e ≡ x) → Works g (λ nu. told_stop x) s t → Works g (λ nu. told_taken f r) s t
+taken_err g f (Ok o) x s t h y = absurd h
+taken_err g f (Err e) x s t h y = subst (λ e. Works g (λ nu. told_stop e) s t) (sym h) y
+
+pub keeps_of : (s t : Core) → Rests s t → t.cells ≡ s.cells → Keeps s t
+keeps_of s t r e = record { path = r.path; branch = r.branch; names = λ x. names_in (e x).now }
+
+pub taken_fails : {V A : Type 0} (g : Naming → Small A) (f : V → A) (r : Result (Option V) OpStop) (s t : Core) → Rests s t → t.cells ≡ s.cells → IsErrAnd r (λ e. e ≡ Memory) → Works g (λ nu. told_taken f r) s t
+taken_fails g f r s t k e h = taken_err g f r Memory s t h (works_fails g s t (keeps_of s t k e))
+
+-- ---- one access, and one cell
+
+pub read_there : (i : ℕ) (key : List ℕ) (said : Naming → Told Val) (s t : Core) → Works (λ nu. steps_of (ReadName (nu i) key)) said s t → Works (λ nu. edit (nu i) (look key) there) said s t
+unfolding steps_of
+read_there i key said s t x = x
+
+pub object_at : (old : Core) → IsWhole old.cells.now → (i : ℕ) → i < count old → (kind : CellKind) → slice_get (kinds_of old.cells.now) i ≡ Some kind → (left n : ℕ) → left ≡ suc n → (said : Naming → Told Data) (last : Core)
+    → Works (λ nu. take_cell (take n) (nu i) (kind_in nu kind)) said old last → Works (λ nu. take left (model.Object (nu i))) said old last
+object_at old whole i here kind is left n e said last x =
+    subst (λ m. Works (λ nu. take m (model.Object (nu i))) said old last) (sym e) (works_known old whole i here kind is (λ nu k. take_cell (take n) (nu i) k.kind) said last x)
+
+pub too_deep : (i left : ℕ) (c : Core) → left ≡ 0 → Works (λ nu. take left (model.Object (nu i))) (λ nu. Refuses model.NotData) c c
+too_deep i left c e = subst (λ m. Works (λ nu. take m (model.Object (nu i))) (λ nu. Refuses model.NotData) c c) (sym e) (works_refuse model.NotData c)

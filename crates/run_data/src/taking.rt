@@ -130,12 +130,12 @@ fn take_array(
     heap.keys_differ(cell);
     heap.touch_keys(cell);
     let length = heap.look(cell, &name)?;
-    let Some(many) = elements(&keys, &length) else {
-        return Ok(None);
-    };
-    match take_items(alloc, heap, cell, many, left)? {
+    match elements(&keys, &length) {
         None => Ok(None),
-        Some(items) => Ok(Some(Data::make(Node::List(items)))),
+        Some(many) => match take_items(alloc, heap, cell, many, left)? {
+            None => Ok(None),
+            Some(items) => Ok(Some(Data::make(Node::List(items)))),
+        },
     }
 }
 
