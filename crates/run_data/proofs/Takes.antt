@@ -19,6 +19,7 @@ use Rattle.value_cells.specs.Held.{kinds_of, IsWhole}
 use Rattle.value_cells.specs.Seen.{kind_in}
 use Rattle.std.specs.Result.{IsErrAnd}
 use Rattle.turk_base.specs.Prog.{ReadName}
+use Rattle.std.specs.Map.{keys_of}
 use Rattle.turk_base.specs.Steps.{steps_of, take}
 use Rattle.run_heap.specs.Core.{count, names_in, Rests}
 use Rattle.run_heap.specs.Placed.{chain_of}
@@ -279,3 +280,19 @@ object_at old whole i here kind is left n e said last x =
 
 pub too_deep : (i left : ℕ) (c : Core) → left ≡ 0 → Works (λ nu. take left (model.Object (nu i))) (λ nu. Refuses model.NotData) c c
 too_deep i left c e = subst (λ m. Works (λ nu. take m (model.Object (nu i))) (λ nu. Refuses model.NotData) c c) (sym e) (works_refuse model.NotData c)
+
+pub in_none : {V A : Type 0} (g : Naming → Small A) (o : Option V) (f : V → A) (s t : Core) → o ≡ None → Works g (λ nu. told_taken f (Ok o)) s t → Works g (λ nu. Refuses model.NotData) s t
+in_none g o f s t e x = subst (λ o. Works g (λ nu. told_taken f (Ok o)) s t) e x
+
+pub in_some : {V A : Type 0} (g : Naming → Small A) (o : Option V) (v : V) (f : V → A) (s t : Core) → o ≡ Some v → Works g (λ nu. told_taken f (Ok o)) s t → Works g (λ nu. Says (f v)) s t
+in_some g o v f s t e x = subst (λ o. Works g (λ nu. told_taken f (Ok o)) s t) e x
+
+pub begin_items : (one : Val → Small Data) (i n m : ℕ) (front : List Data) → front ≡ [] → m ≡ n → (said : Naming → Told Items) (s t : Core) → Works (λ nu. rest_of one i nu 0 m front) said s t → Works (λ nu. take_items one (nu i) 0 n) said s t
+begin_items one i n m front e q said s t x = items_begin one i n said s t (subst (λ m. Works (λ nu. rest_of one i nu 0 m []) said s t) q (subst (λ l. Works (λ nu. rest_of one i nu 0 m l) said s t) e x))
+
+pub begin_fields : (one : Val → Small Data) (i : ℕ) (ks : List (List ℕ)) (front : List (List ℕ × Data)) → front ≡ [] → (said : Naming → Told Fields) (s t : Core) → Works (λ nu. fields_left one i nu ks front) said s t → Works (λ nu. take_fields one (nu i) ks) said s t
+begin_fields one i ks front e said s t x = fields_begin one i ks said s t (subst (λ l. Works (λ nu. fields_left one i nu ks l) said s t) e x)
+
+pub keys_push : (front : List (List ℕ × Data)) (f : List ℕ × Data) → keys_of (front ++ f ∷ []) ≡ keys_of front ++ f.0 ∷ []
+keys_push [] f = refl
+keys_push (g ∷ front) f = ap (λ l. g.0 ∷ l) (keys_push front f)

@@ -95,14 +95,14 @@ fn take_fields(
     ensures keys { IfOk result (λ taken. IfSome taken (λ fs. keys_of fs.items ≡ keys.now)) }
 {
     let mut fields = Vec::new(alloc);
-    for place in 0..keys.len() {
-        heap.pay(key_cost(&keys[place]))?;
-        let value = look_there(heap, cell, &keys[place])?;
+    for key in keys {
+        heap.pay(key_cost(key))?;
+        let value = look_there(heap, cell, key)?;
         match take_value(alloc, heap, &value, left)? {
             None => return Ok(None),
             Some(data) => {
-                let key = keys[place].copy(alloc)?;
-                if fields.push((key, data)).is_err() {
+                let name = key.copy(alloc)?;
+                if fields.push((name, data)).is_err() {
                     return Err(OpStop::Memory);
                 }
             }

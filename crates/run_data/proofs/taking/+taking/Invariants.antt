@@ -35,11 +35,11 @@ invariant-take_items-loop-place l = record {
       → Works (λ nu. model.take_items (model.take l.left) (nu l.cell) 0 l.many) said l.initial.heap last;
 }
 
-abbrev pub invariant-take_fields-loop-place : goal.invariant-take_fields-loop-place
-invariant-take_fields-loop-place l = record {
+abbrev pub invariant-take_fields-loop-key : goal.invariant-take_fields-loop-key
+invariant-take_fields-loop-key l = record {
   cells : l.heap.cells ≡ l.initial.heap.cells;
   rests : Rests l.initial.heap l.heap;
-  keys : keys_of l.fields.items ≡ take l.place l.keys;
-  leads : (said : Naming → Told Fields) (last : Core) → Works (λ nu. fields_left (model.take l.left) l.cell nu (drop l.place l.keys) l.fields.items) said l.heap last
+  keys : keys_of l.fields.items ≡ take l.key-index l.keys;
+  leads : (said : Naming → Told Fields) (last : Core) → Works (λ nu. fields_left (model.take l.left) l.cell nu (drop l.key-index l.keys) l.fields.items) said l.heap last
       → Works (λ nu. model.take_fields (model.take l.left) (nu l.cell) l.keys) said l.initial.heap last;
 }
