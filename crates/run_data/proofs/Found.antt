@@ -1,24 +1,19 @@
 -- Each element of an array whose keys are just its elements is found when it is looked up, and each key of a cell.
-use Rattle.std.proofs.Common.{◌≡◌, refl, ap, sym, ◌∙◌, subst, ℕ, ℤ, zero, suc, ◌+◌, ◌<◌, ◌≤◌, nat_lt, Bool, true, false, true≢false, ◌&&◌, ◌||◌, cond, if◌then◌else◌, List, [], ◌∷◌, length, Option, Some, None, is_some, slice_get, arith, decimal}
-use Rattle.std.proofs.Common.{inl, inr}
+use Rattle.std.proofs.Common.{◌≡◌, refl, ap, sym, ◌∙◌, subst, ℕ, zero, suc, ◌+◌, ◌<◌, ◌≤◌, nat_lt, Bool, true, false, true≢false, ◌&&◌, ◌||◌, cond, if◌then◌else◌, List, [], ◌∷◌, length, Option, Some, None, is_some, slice_get, arith, decimal}
 use Rattle.std.proofs.lemmas.Bool.Decides.{nat_tests}
 use Rattle.std.proofs.lemmas.Map.Keys.{IsDistinct-head, IsDistinct-tail}
 use Rattle.std.specs.Prelude.{◌==◌, IsSome, pos, negsuc}
 use Rattle.std.specs.List.{IsDistinct, AllByRecursion}
 use Rattle.std.specs.Map.{keys_of, lookup}
-use Rattle.turk_base.specs.Names.{Units, pick, units_eq}
+use Rattle.turk_base.specs.Names.{pick, units_eq}
 use Rattle.turk_base.specs.Values.{Val, Undefined, Null, Truth, Number, Text, Object, Array}
 use Rattle.turk_base.specs.Cells.{KeyClass, index, past, named, class_of, length_key}
 use Rattle.turk_base.specs.Steps.{without_length, is_index_below, all_below, just_elements}
 use Rattle.value_cells.specs.Held.{Key, Props, key_eq}
-use Rattle.run_heap.proofs.Keys.{same_key, key_same}
+use Rattle.run_heap.proofs.Keys.{key_same}
 use Rattle.run_data.proofs.Numbers.{index_is}
 
 -- ---- a key that stands in a cell
-
-
-
-
 
 pub key_found : (ps : Props) (i : ℕ) (k : Key) → slice_get (keys_of ps) i ≡ Some k → IsSome (lookup (key_eq k) ps)
 key_found [] i k e = cc

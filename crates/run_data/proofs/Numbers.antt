@@ -1,11 +1,11 @@
 -- A key is an index just where it is its decimal text; different indexes below n that are n are all of them.
-use Rattle.std.proofs.Common.{◌≡◌, refl, ap, sym, ◌∙◌, subst, ℕ, zero, suc, ◌+◌, ◌-◌, ◌*◌, ◌/◌, ◌%◌, ◌^◌, ◌<◌, ◌≤◌, nat_lt, Bool, true, false, true≢false, ◌&&◌, ◌||◌, if◌then◌else◌, List, [], ◌∷◌, ◌++◌, length, Option, Some, None, is_some, arith, decimal}
+use Rattle.std.proofs.Common.{◌≡◌, refl, ap, sym, ◌∙◌, ℕ, ◌+◌, ◌-◌, ◌*◌, ◌/◌, ◌%◌, ◌^◌, ◌<◌, ◌≤◌, nat_lt, Bool, true, false, ◌&&◌, if◌then◌else◌, [], ◌∷◌, ◌++◌, Option, Some, None, arith, decimal}
 use Rattle.std.proofs.lemmas.Bool.Decides.{nat_tests}
 use Rattle.std.proofs.lemmas.Fmt.{decimal_step, decimal_digit}
 use Rattle.std.proofs.lemmas.List.{append_assoc}
 use Rattle.std.specs.Prelude.{◌==◌}
 use Rattle.turk_base.specs.Names.{Units}
-use Rattle.turk_base.specs.Cells.{KeyClass, index, past, named, class_of, class_of_number, decimal_of, digits_on}
+use Rattle.turk_base.specs.Cells.{index, past, named, class_of, class_of_number, decimal_of, digits_on}
 use Rattle.run_heap.proofs.Index_keys.{index_small}
 
 -- ---- the digits of a key

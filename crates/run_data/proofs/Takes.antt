@@ -1,18 +1,18 @@
 -- Data taken, from the steps that the code did.
-use Rattle.std.proofs.Common.{◌≡◌, refl, ap, sym, ◌∙◌, subst, ℕ, zero, suc, ◌<◌, slice_get, true, map, List, [], ◌∷◌, ◌++◌, length, Option, Some, None, option_map, decimal}
+use Rattle.std.proofs.Common.{◌≡◌, refl, ap, sym, ◌∙◌, subst, ℕ, suc, ◌<◌, slice_get, true, List, [], ◌∷◌, ◌++◌, length, Option, Some, None, option_map, decimal}
 use Rattle.std.specs.Prelude.{Result, Ok, Err}
-use Rattle.turk_base.specs.Names.{Path, path_in, Name}
+use Rattle.turk_base.specs.Names.{path_in, Name}
 use Rattle.turk_base.specs.Values as model
 use Rattle.turk_base.specs.Values.{Val, Array, Refusal}
 use Rattle.turk_base.specs.Data.{Data, DList, DFields, Items, NoItems, Item, Fields, NoFields, Field, items_of, fields_of}
 use Rattle.turk_base.specs.Cells.{look, list, length_key}
-use Rattle.turk_base.specs.State.{St, charge, change}
+use Rattle.turk_base.specs.State.{charge, change}
 use Rattle.turk_base.specs.Steps.{Small, give, refuse, lost, step, ask, bind, pays, edit, there, without_length, just_elements, take_items, take_list, take_fields, take_cell}
 use Rattle.value_cells.specs.declared.Value.{Value}
 use Rattle.value_cells.specs.declared.OpStop.{OpStop}
-use Rattle.value_cells.specs.Comes.{Comes, stops, then_goes, comes}
+use Rattle.value_cells.specs.Comes.{then_goes, comes}
 use Rattle.value_cells.specs.Seen.{Naming, val_in}
-use Rattle.value_cells.specs.Does.{Told, Says, Refuses, Fails, told, told_stop, Did, comes_from}
+use Rattle.value_cells.specs.Does.{Told, Says, Refuses, told_stop}
 use Rattle.value_cells.specs.declared.OpStop.TheVariants.{Memory}
 use Rattle.value_cells.specs.declared.CellKind.{CellKind}
 use Rattle.value_cells.specs.Held.{kinds_of, IsWhole}
@@ -22,12 +22,11 @@ use Rattle.turk_base.specs.Prog.{ReadName}
 use Rattle.std.specs.Map.{keys_of}
 use Rattle.turk_base.specs.Steps.{steps_of, take}
 use Rattle.run_heap.specs.Core.{count, names_in, Rests}
-use Rattle.run_heap.specs.Placed.{chain_of}
 use Rattle.run_heap.proofs.Chains.{works_known}
 use Rattle.run_heap.proofs.Putting.{works_refuse}
 use Rattle.run_heap.proofs.Turn.{Keeps, works_fails}
 use Rattle.run_heap.specs.Core.{Core}
-use Rattle.run_heap.specs.Placed.{placed, seen_in}
+use Rattle.run_heap.specs.Placed.{placed}
 use Rattle.run_heap.specs.Works.{Works}
 use Rattle.run_heap.proofs.Acts.{comes_bind}
 use Rattle.run_heap.proofs.Turn.{works_then, works_out, works_give}

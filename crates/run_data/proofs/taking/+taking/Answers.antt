@@ -1,26 +1,21 @@
-use Rattle.std.proofs.Common.{rules, [], ◌∷◌, ◌++◌, ◌≡◌, ◌<◌, ◌≤◌, true, refl, ap, sym, ◌∙◌, subst, ℕ, List, zero, suc, ◌+◌, ◌-◌, Option, Some, None, option_map, slice_get, get_or, length, drop, take, arith}
-use Rattle.std.proofs.lemmas.Option.{slice_get_read}
+use Rattle.std.proofs.Common.{rules, [], ◌∷◌, ◌++◌, ◌≡◌, ◌<◌, true, refl, ap, sym, ◌∙◌, subst, ℕ, List, suc, ◌+◌, ◌-◌, Some, None, option_map, slice_get, length, drop, arith}
 use Rattle.std.specs.Prelude.{IsSome, Ok, Err}
 use Rattle.std.specs.Fmt.{decimal}
-use Rattle.std.specs.List.{IsDistinct}
 use Rattle.std.specs.Map.{keys_of}
-use Rattle.turk_base.specs.Names.{Name, cell, root}
+use Rattle.turk_base.specs.Names.{cell, root}
 use Rattle.turk_base.specs.Values as model
-use Rattle.turk_base.specs.Data.{Data, Items, Fields, DList, DFields, DText, items_of, fields_of}
+use Rattle.turk_base.specs.Data.{Data, DFields, DText, items_of, fields_of}
 use Rattle.turk_base.specs.Cells.{look, list, length_key}
 use Rattle.turk_base.specs.State.{charge, change}
 use Rattle.turk_base.specs.Steps as steps
 use Rattle.turk_base.specs.Steps.{Small, give, step, edit, there, take_cell, take_items, take_fields, without_length, just_elements}
 use Rattle.value_cells.specs.declared.Value.{Value}
-use Rattle.value_cells.specs.declared.Value.TheVariants as code
 use Rattle.value_cells.specs.declared.CellKind.{CellKind}
-use Rattle.value_cells.specs.Held.{Held, Key, key_eq, own, props_at, kinds_of}
-use Rattle.value_cells.specs.Needs.{needs}
+use Rattle.value_cells.specs.Held.{Held, Key, own, props_at}
 use Rattle.value_cells.specs.Seen.{Naming, val_in, kind_in}
-use Rattle.value_cells.specs.Does.{Told, Says, Refuses, Fails, told, told_stop}
-use Rattle.run_heap.specs.Core.{Core, count, Rests}
+use Rattle.value_cells.specs.Does.{Says, Refuses, told_stop}
 use Rattle.run_heap.specs.Works.{Works}
-use Rattle.run_heap.proofs.Turn.{works_fails, works_give, keeps_same}
+use Rattle.run_heap.proofs.Turn.{works_fails}
 use Rattle.run_heap.proofs.Whole.{rests_then, rests_same}
 use Rattle.run_heap.proofs.Putting.{works_refuse}
 use Rattle.run_heap.proofs.Index_keys.{drop_next, no_more}
@@ -28,7 +23,7 @@ use Rattle.run_heap.proofs.Listed.{take_next}
 use Rattle.run_data.specs.Taken.{told_taken}
 use Rattle.run_data.proofs.Parts.{read_at}
 use Rattle.run_data.proofs.Found.{key_found, element_found, just_are}
-use Rattle.run_data.proofs.Takes.{rest_of, fields_left, found_at, taken_err, taken_fails, keeps_of, in_none, in_some, paid_out, array_out, array_none, array_told, plain_on, object_at, too_deep, begin_items, items_next, items_none, items_out, items_lost, items_end, begin_fields, keys_push, fields_next, fields_none, fields_out, fields_lost, fields_unpaid, fields_end}
+use Rattle.run_data.proofs.Takes.{rest_of, fields_left, taken_err, taken_fails, keeps_of, in_none, in_some, paid_out, array_out, array_none, array_told, plain_on, object_at, too_deep, begin_items, items_next, items_none, items_out, items_lost, items_end, begin_fields, keys_push, fields_next, fields_none, fields_out, fields_lost, fields_unpaid, fields_end}
 use Rattle.run_data.proofs.taking.+taking.Goals as goal
 
 -- ---- an array
@@ -80,8 +75,7 @@ take_array-take_items-requires t c =
     let nu = λ (n : ℕ). cell root n in
     let same = c.look.ensures.cells ∙ c.touch_keys.ensures.cells in
     let just = just_are (without_length model.Array (keys_of ps)) (option_map (val_in nu) o) c.in-Some.many
-        (sym (c.in-Some.ensures nu ∙ ap (λ l. just_elements (without_length model.Array l) (option_map (val_in nu) o)) (c.deref.ensures.value ∙ c.in_ok-keys.ensures))) in
-    (
+    (sym (c.in-Some.ensures nu ∙ ap (λ l. just_elements (without_length model.Array l) (option_map (val_in nu) o)) (c.deref.ensures.value ∙ c.in_ok-keys.ensures))) in (
       omega (arith, c.decreases),
       (
         subst (λ (h : Held). i < length h.now) (sym (same ∙ c.pay.ensures.cells)) c.requires,

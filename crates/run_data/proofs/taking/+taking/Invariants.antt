@@ -1,4 +1,4 @@
-use Rattle.std.proofs.Common.{◌≡◌, ◌+◌, ◌-◌, ◌*◌, ◌≤◌, drop, take}
+use Rattle.std.proofs.Common.{◌≡◌, ◌+◌, ◌-◌, ◌*◌, drop, take}
 use Rattle.std.specs.Map.{keys_of}
 use Rattle.turk_base.specs.Data.{Items, Fields}
 use Rattle.turk_base.specs.Steps as model

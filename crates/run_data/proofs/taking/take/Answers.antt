@@ -1,4 +1,3 @@
-use Rattle.value_cells.specs.Does.{told}
 use Rattle.turk_base.specs.Steps.{taking}
 use Rattle.run_data.proofs.taking.take.Goals as goal
 
