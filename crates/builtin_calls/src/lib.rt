@@ -13,6 +13,7 @@ mod tests;
 mod texts;
 
 pub use calls::call;
+pub use steps::text_of;
 
 /// Why a built-in call ended the run or throws: an error with its kind, 0 for TypeError and 1 for
 /// ReferenceError, and its message; a number that isn't whole or isn't in range, an object where a

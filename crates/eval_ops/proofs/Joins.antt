@@ -3,20 +3,19 @@ use Rattle.std.proofs.Common.{◌≡◌, refl, ap, sym, ◌∙◌, subst, ℕ, s
 use Rattle.std.specs.Result.{IsErrAnd}
 use Rattle.std.proofs.lemmas.Bool.Decides.{nat_tests}
 use Rattle.std.proofs.lemmas.List.{length-map}
-use Rattle.std.specs.Prelude.{reverse, Result, Ok, Err}
+use Rattle.std.specs.Prelude.{Result, Ok, Err}
 use Rattle.turk_base.specs.Names.{Path, path_in, Name}
 use Rattle.turk_base.specs.Values as model
 use Rattle.turk_base.specs.Values.{Val, Refusal, Array}
 use Rattle.turk_base.specs.Cells.{put, grow}
 use Rattle.turk_base.specs.State.{St, Op, AnswerTo, Act, act, act_join, gives, refused, waiting, stuck, op_cost, make, change, join, any_gone, too_many, join_scope}
-use Rattle.turk_base.specs.Prog.{Join, Make}
+use Rattle.turk_base.specs.Prog.{Make}
 use Rattle.turk_base.specs.Steps.{Small, give, step, fill, joined, steps_of}
-use Rattle.branch_check.specs.Watch.{Watch, after_join}
+use Rattle.branch_check.specs.Watch.{after_join}
 use Rattle.value_cells.specs.declared.Value.{Value}
 use Rattle.value_cells.specs.declared.CellKind.TheVariants as Code
 use Rattle.value_cells.specs.declared.OpStop.{OpStop}
 use Rattle.value_cells.specs.declared.OpStop.TheVariants.{NotWhole, NoPrimitive, TooLong, Spent, Memory}
-use Rattle.value_cells.specs.Needs.{all_needs}
 use Rattle.value_cells.specs.Comes.{Comes, goes, stops, spends, other, then_goes, acted, charged, comes}
 use Rattle.value_cells.specs.Seen.{Naming, Seen, Fits, val_in, kind_in}
 use Rattle.value_cells.specs.Does.{Told, Says, Refuses, Spends, Fails, told, told_stop, Did, Stays, comes_from}
@@ -31,7 +30,6 @@ use Rattle.run_heap.proofs.Turn.{works_then, works_out}
 use Rattle.eval_ops.specs.Run.{Run, around, seen_of}
 use Rattle.eval_ops.specs.Stored.{IsRun, HasRoom}
 use Rattle.eval_ops.specs.Calls.{join_from, Joins}
-use Rattle.eval_ops.proofs.Marks.{Fronts}
 use Rattle.eval_ops.proofs.Machines.{SameAround, SameBase, rests_at, rests_base, around_same, stays_of}
 
 -- the scope's values are taken, and its branches are joined

@@ -1,5 +1,5 @@
 -- A machine after one of its parts changed.
-use Rattle.std.proofs.Common.{◌≡◌, true, false, refl, ap, sym, ◌∙◌, subst, ℕ, ◌<◌, ◌≤◌, List, [], ◌∷◌, ◌++◌, length, take, Some, slice_get, arith}
+use Rattle.std.proofs.Common.{◌≡◌, true, false, refl, ap, sym, ◌∙◌, subst, ℕ, ◌<◌, ◌≤◌, length, take, Some, slice_get, arith}
 use Rattle.std.specs.Prelude.{Result, Ok, Err, IsOk, is_ok, if◌then◌else◌}
 use Rattle.std.specs.Result.{IsErrAnd}
 use Rattle.std.proofs.lemmas.Option.{slice_get_within}
@@ -7,7 +7,6 @@ use Rattle.turk_base.specs.Names.{path_in}
 use Rattle.turk_base.specs.State.{St, charge}
 use Rattle.turk_base.specs.Prog.{Prim, AnswerOf, Pay, KindOf}
 use Rattle.turk_base.specs.Steps.{Small, give, step, steps_of}
-use Rattle.value_cells.specs.Needs.{all_needs}
 use Rattle.value_cells.specs.declared.CellKind.{CellKind}
 use Rattle.value_cells.specs.Held.{IsWhole, kinds_of}
 use Rattle.run_heap.proofs.Chains.{works_known}

@@ -1,8 +1,8 @@
 -- What taking back gives stays what it was, where the scopes around do.
-use Rattle.std.proofs.Common.{◌≡◌, refl, ap, sym, ◌∙◌, ℕ, zero, suc, ◌<◌, ◌≤◌, List, [], ◌∷◌, ◌++◌, length, take, map, Option, Some, None, slice_get, arith}
+use Rattle.std.proofs.Common.{◌≡◌, refl, ap, ◌∙◌, ℕ, zero, suc, ◌<◌, ◌≤◌, List, ◌∷◌, length, take, map, Option, Some, None, slice_get, arith}
 use Rattle.std.specs.Prelude.{reverse}
 use Rattle.turk_base.specs.Names.{path_in}
-use Rattle.branch_check.specs.Watch.{Kept, Watch}
+use Rattle.branch_check.specs.Watch.{Kept}
 use Rattle.value_cells.specs.Held.{Cell}
 use Rattle.value_cells.specs.Seen.{Naming, val_in}
 use Rattle.slot_watch.specs.Named.{named}

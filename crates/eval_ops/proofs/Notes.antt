@@ -1,20 +1,18 @@
 -- Absent branches, and values of branches.
-use Rattle.std.proofs.Common.{◌≡◌, refl, ap, sym, ◌∙◌, subst, ℕ, zero, suc, ◌-◌, ◌<◌, ◌≤◌, Bool, true, false, List, [], ◌∷◌, ◌++◌, length, take, max, Option, Some, None, slice_get, get_or, map, arith, length-append}
+use Rattle.std.proofs.Common.{◌≡◌, refl, ap, sym, ◌∙◌, subst, ℕ, zero, suc, ◌-◌, ◌<◌, ◌≤◌, Bool, true, List, [], ◌∷◌, ◌++◌, length, take, Some, None, get_or, map, arith, length-append}
 use Rattle.std.specs.Prelude.{reverse, if◌then◌else◌}
 use Rattle.std.proofs.lemmas.List.{reverse-append, map-append}
-use Rattle.turk_base.specs.Names.{path_in, pick, under}
+use Rattle.turk_base.specs.Names.{path_in}
 use Rattle.turk_base.specs.Trace.{begins}
-use Rattle.turk_base.specs.State.{any_gone, absent, give_value}
+use Rattle.turk_base.specs.State.{any_gone, give_value}
 use Rattle.eval_ops.proofs.Prefixes.{pick_under}
 use Rattle.value_cells.specs.declared.Value.{Value}
 use Rattle.value_cells.specs.Needs.{needs, all_needs}
-use Rattle.value_cells.specs.Seen.{Naming, val_in}
+use Rattle.value_cells.specs.Seen.{val_in}
 use Rattle.run_heap.proofs.Whole.{rests_same}
-use Rattle.eval_ops.specs.declared.Outer.{Outer}
 use Rattle.eval_ops.specs.Run.{Run, seen_of}
 use Rattle.eval_ops.specs.Stored.{IsRun, HasRoom}
 use Rattle.eval_ops.specs.Calls.{Changes, notes}
-use Rattle.eval_ops.proofs.Marks.{Fronts}
 use Rattle.eval_ops.proofs.Machines.{SameAround, rests_at, changes}
 use Rattle.eval_ops.proofs.Prints.{front_of}
 

@@ -1,21 +1,16 @@
 -- A line is printed.
-use Rattle.std.proofs.Common.{◌≡◌, refl, ap, sym, ◌∙◌, subst, ℕ, suc, ◌-◌, ◌<◌, ◌≤◌, List, [], ◌∷◌, ◌++◌, length, take, Some, slice_get, arith, length-append}
+use Rattle.std.proofs.Common.{◌≡◌, refl, ap, sym, ◌∙◌, ℕ, suc, ◌-◌, ◌<◌, ◌≤◌, List, [], ◌∷◌, ◌++◌, length, take, arith, length-append}
 use Rattle.std.proofs.lemmas.List.{take-append-le}
-use Rattle.turk_base.specs.Names.{path_in}
 use Rattle.turk_base.specs.State.{act, print}
 use Rattle.turk_base.specs.Prog.{Print}
 use Rattle.turk_base.specs.Steps.{steps_of}
-use Rattle.value_cells.specs.Seen.{Naming}
 use Rattle.value_cells.specs.Comes.{goes}
 use Rattle.value_cells.specs.Does.{Says, Spends, Does}
 use Rattle.value_cells.proofs.Turns.{stays_same}
 use Rattle.run_heap.specs.Core.{Core}
 use Rattle.run_heap.proofs.Acts.{step_goes, step_spends}
-use Rattle.run_heap.proofs.Whole.{rests_same}
-use Rattle.eval_ops.specs.declared.Outer.{Outer}
 use Rattle.eval_ops.specs.Run.{Run, seen_of}
 use Rattle.eval_ops.specs.Stored.{IsRun}
-use Rattle.eval_ops.proofs.Marks.{Fronts}
 use Rattle.eval_ops.proofs.Machines.{SameAround, rests_at, stays_of}
 
 -- more at the end of the text

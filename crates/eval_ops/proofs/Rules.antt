@@ -1,15 +1,13 @@
 -- The verdict rule, and calls that take an index.
-use Rattle.std.proofs.Common.{◌≡◌, refl, ap, sym, ◌∙◌, subst, ℕ, suc, ◌+◌, List, length, slice_get, arith}
-use Rattle.turk_base.specs.Names.{path_in}
-use Rattle.turk_base.specs.State.{St, next_call, once_call, threw, first_reason, once_reason, first_open, branch_threw}
-use Rattle.branch_check.specs.Watch.{Watch, after_once, after_join, after_throw}
+use Rattle.std.proofs.Common.{◌≡◌, refl, ap, subst, ℕ, suc, ◌+◌, arith}
+use Rattle.turk_base.specs.State.{St, next_call}
+use Rattle.branch_check.specs.Watch.{Watch}
 use Rattle.value_cells.specs.Seen.{Naming, Fits}
 use Rattle.run_heap.specs.Core.{Core, names_in, Rests}
 use Rattle.run_heap.specs.Placed.{known_of, props_of}
 use Rattle.run_heap.specs.Watching.{Watches}
 use Rattle.eval_ops.specs.Run.{Run, seen_of}
 use Rattle.eval_ops.specs.Calls.{Changes}
-use Rattle.eval_ops.proofs.Marks.{Fronts}
 use Rattle.eval_ops.proofs.Machines.{rests_base, changes, with_heap}
 
 -- open slots and verdict after a rule of the watch

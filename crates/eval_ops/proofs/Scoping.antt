@@ -1,28 +1,26 @@
 -- Scopes of a machine: entered, left and taken back, left and kept.
-use Rattle.std.proofs.Common.{◌≡◌, refl, ap, sym, ◌∙◌, subst, ℕ, zero, suc, ◌<◌, ◌≤◌, Bool, true, false, not, List, [], ◌∷◌, ◌++◌, length, take, min, Option, Some, None, slice_get, map, if◌then◌else◌, arith, length-append}
+use Rattle.std.proofs.Common.{◌≡◌, refl, ap, sym, ◌∙◌, subst, ℕ, zero, suc, ◌<◌, ◌≤◌, Bool, true, false, not, List, [], ◌∷◌, ◌++◌, length, take, Some, None, slice_get, map, if◌then◌else◌, arith, length-append}
 use Rattle.std.specs.Prelude.{reverse}
 use Rattle.std.proofs.lemmas.Option.{slice_get_within}
-use Rattle.turk_base.specs.Names.{Path, path_in}
+use Rattle.turk_base.specs.Names.{path_in}
 use Rattle.turk_base.specs.State.{enter, leave}
 use Rattle.branch_check.specs.Watch.{Kept}
-use Rattle.value_cells.specs.declared.Value.{Value}
 use Rattle.value_cells.specs.Needs.{all_needs}
 use Rattle.value_cells.specs.Held.{Cell}
 use Rattle.value_cells.specs.Seen.{Naming, Grows, val_in}
 use Rattle.value_cells.proofs.Lists.{get_front, get_last, pushed}
 use Rattle.slot_watch.specs.Named.{named}
-use Rattle.run_heap.specs.declared.Place.{Place}
 use Rattle.run_heap.specs.Core.{Core, names_in}
 use Rattle.run_heap.specs.Whole.{IsCore}
 use Rattle.run_heap.specs.Placed.{known_of, props_of}
 use Rattle.run_heap.specs.Scopes as heap
 use Rattle.run_heap.proofs.Tables.{there, count_names}
 use Rattle.eval_ops.specs.declared.Outer.{Outer}
-use Rattle.eval_ops.specs.Run.{Run, stands, first_at, marked, back_of, scope_of, scopes, seen_of}
+use Rattle.eval_ops.specs.Run.{Run, first_at, marked, back_of, scope_of, scopes, seen_of}
 use Rattle.value_cells.proofs.Turns.{grows_length}
 use Rattle.eval_ops.specs.Stored.{IsRun, HasRoom}
 use Rattle.eval_ops.specs.Calls.{branch_in, Enters, LeavesBack, LeavesKeep}
-use Rattle.eval_ops.proofs.Marks.{Fronts, SameAt, Alike, back_same, scopes_same}
+use Rattle.eval_ops.proofs.Marks.{Fronts, Alike, back_same, scopes_same}
 
 pub take_all : {A : Type 0} (l : List A) → take (length l) l ≡ l
 take_all [] = refl

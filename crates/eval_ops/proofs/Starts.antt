@@ -1,19 +1,18 @@
 -- The machine that a run begins with.
-use Rattle.std.proofs.Common.{◌≡◌, refl, ap, sym, ◌∙◌, subst, ℕ, ◌≤◌, false, List, [], Option, None, slice_get, length, arith}
-use Rattle.turk_base.specs.Names.{Name, root, path_in, Under, home}
+use Rattle.std.proofs.Common.{◌≡◌, refl, ap, sym, ◌∙◌, subst, ℕ, ◌≤◌, false, List, [], None, slice_get, length, arith}
+use Rattle.turk_base.specs.Names.{Name, path_in, Under, home}
 use Rattle.turk_base.specs.Values as model
-use Rattle.turk_base.specs.State.{St}
 use Rattle.turk_base.specs.Start.{start}
 use Rattle.turk_base.specs.Prog.{Make}
 use Rattle.turk_base.specs.Steps.{steps_of}
 use Rattle.value_cells.specs.declared.CellKind.TheVariants.{Frame}
 use Rattle.value_cells.specs.Comes.{goes, comes}
-use Rattle.value_cells.specs.Seen.{Naming, Fits, kind_in}
+use Rattle.value_cells.specs.Seen.{Fits, kind_in}
 use Rattle.value_cells.specs.Does.{Says, Does}
 use Rattle.value_cells.proofs.Turns.{fits_before}
 use Rattle.run_heap.specs.Core.{Core, names_in, Rests}
 use Rattle.run_heap.specs.Placed.{placed}
-use Rattle.run_heap.specs.Begins.{first_names, Begins}
+use Rattle.run_heap.specs.Begins.{Begins}
 use Rattle.run_heap.specs.Works.{Works}
 use Rattle.eval_ops.specs.Run.{Run, stands, around, seen_of}
 use Rattle.eval_ops.specs.Stored.{IsRun, HasRoom}

@@ -1,7 +1,7 @@
 -- The parts of plain data, one after another.
-use Rattle.std.proofs.Common.{◌≡◌, refl, ap, sym, ◌∙◌, subst, ℕ, zero, suc, ◌<◌, ◌≤◌, max, List, [], ◌∷◌, length, Some, slice_get, get_or, drop, map, arith}
+use Rattle.std.proofs.Common.{◌≡◌, refl, ap, sym, ◌∙◌, subst, ℕ, zero, suc, ◌<◌, ◌≤◌, List, [], ◌∷◌, length, Some, slice_get, get_or, arith}
 use Rattle.std.proofs.lemmas.Option.{slice_get-get_or}
-use Rattle.turk_base.specs.Data.{Data, DList, DFields, Items, Item, Fields, Field, items_of, fields_of, nesting, nesting_items, nesting_fields}
+use Rattle.turk_base.specs.Data.{Data, DList, DFields, items_of, fields_of, nesting, nesting_items, nesting_fields}
 use Rattle.value_cells.specs.declared.Value.{Value}
 use Rattle.value_cells.specs.Needs.{needs, all_needs}
 use Rattle.run_data.specs.Short.{many, IsShort, AreItemsShort, AreFieldsShort}

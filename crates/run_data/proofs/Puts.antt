@@ -1,17 +1,14 @@
 -- Data put, from the steps that the code did.
-use Rattle.std.proofs.Common.{◌≡◌, true, false, refl, ap, sym, ◌∙◌, subst, ℕ, zero, suc, ◌+◌, ◌<◌, ◌≤◌, max, List, [], ◌∷◌, length, Some, slice_get, get_or, drop, arith, decimal}
+use Rattle.std.proofs.Common.{◌≡◌, true, false, sym, subst, ℕ, suc, List, ◌∷◌, length, decimal}
 use Rattle.std.specs.Prelude.{Result, Ok, Err}
 use Rattle.std.specs.Result.{IsErrAnd}
-use Rattle.std.proofs.lemmas.Option.{slice_get_read}
 use Rattle.turk_base.specs.Names.{Name}
-use Rattle.turk_base.specs.Values as model
 use Rattle.turk_base.specs.Values.{Val, Kind}
-use Rattle.turk_base.specs.Data.{Data, DList, DFields, Items, NoItems, Item, Fields, NoFields, Field, items_of, fields_of, nesting, nesting_items, nesting_fields}
+use Rattle.turk_base.specs.Data.{Data, Items, Item, Fields, Field}
 use Rattle.turk_base.specs.Cells.{put, grow}
 use Rattle.turk_base.specs.State.{charge, change, make}
 use Rattle.turk_base.specs.Steps.{Small, give, step, bind, pays, element, fill, put_data, put_items, put_fields}
 use Rattle.value_cells.specs.declared.Value.{Value}
-use Rattle.value_cells.specs.declared.Value.TheVariants.{Object}
 use Rattle.value_cells.specs.declared.OpStop.{OpStop}
 use Rattle.value_cells.specs.declared.OpStop.TheVariants.{Memory}
 use Rattle.value_cells.specs.Seen.{Naming, val_in}
@@ -19,8 +16,6 @@ use Rattle.value_cells.specs.Does.{Told, Says, Fails, told, told_stop}
 use Rattle.run_heap.specs.Core.{Core}
 use Rattle.run_heap.specs.Works.{Works}
 use Rattle.run_heap.proofs.Turn.{works_then, works_out, works_give}
-use Rattle.run_heap.proofs.Index_keys.{drop_next, no_more}
-use Rattle.run_data.specs.Short.{many, IsShort, AreItemsShort, AreFieldsShort}
 
 -- ---- want of memory at an exit
 

@@ -27,7 +27,7 @@ fn put_paid(
     ensures rests { Rests heap.old heap.new }
     ensures count { count heap.new ≡ count heap.old }
 {
-    let key = index_key(alloc, index)?;
+    let key = index_key(alloc, index as u64)?;
     heap.set(cell, &key, value)?;
     heap.grow(cell, index)
 }

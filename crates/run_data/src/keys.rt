@@ -7,7 +7,7 @@ use std::alloc::Global;
 use turk_base::{NoMemory, Units};
 
 /// The decimal text of an index.
-pub fn index_key(alloc: Global, index: u32) -> Result<Units, NoMemory>
+pub fn index_key(alloc: Global, index: u64) -> Result<Units, NoMemory>
     ensures { IfOk result (λ key. key ≡ index_text index) }
 {
     let mut buffer = Buffer::new();

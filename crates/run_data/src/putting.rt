@@ -31,7 +31,7 @@ fn put_element(
     ensures rests { Rests heap.old heap.new }
     ensures count { count heap.new ≡ count heap.old }
 {
-    let key = index_key(alloc, index)?;
+    let key = index_key(alloc, index as u64)?;
     heap.set_free(cell, &key, value)?;
     heap.known();
     heap.grow(cell, index)

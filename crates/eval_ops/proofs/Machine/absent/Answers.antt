@@ -1,10 +1,10 @@
-use Rattle.std.proofs.Common.{◌≡◌, ◌<◌, sym, ap, ◌∙◌, subst, List, ℕ, length, ◌++◌, ◌∷◌, [], Option, Some, None, arith}
-use Rattle.std.specs.Prelude.{vec_len, vec_capacity}
+use Rattle.std.proofs.Common.{◌≡◌, sym, ◌∙◌, subst, List, ℕ, ◌++◌, ◌∷◌, [], Option, Some, arith}
+use Rattle.std.specs.Prelude.{vec_capacity}
 use Rattle.eval_ops.specs.Run.{Run, seen_of}
 use Rattle.eval_ops.specs.Stored.{run_of, IsRun, HasRoom}
 use Rattle.eval_ops.specs.Calls.{Changes, notes}
 use Rattle.eval_ops.proofs.Machines.{pushed_all}
-use Rattle.eval_ops.proofs.Notes.{noted, notes_one, notes_none, noted_run, noted_room, plain_run, plain_room}
+use Rattle.eval_ops.proofs.Notes.{notes_one, notes_none, noted_run, noted_room, plain_run, plain_room}
 use Rattle.eval_ops.proofs.Machine.absent.Goals as goal
 
 pub invariant_of-self : goal.invariant_of-self

@@ -1,10 +1,9 @@
-use Rattle.std.proofs.Common.{rules, ◌≡◌, ◌≤◌, ◌<◌, ◌+◌, refl, sym, ap, ◌∙◌, subst, List, ℕ, not, length, ◌++◌, ◌∷◌, [], Option, Some, None, arith}
+use Rattle.std.proofs.Common.{rules, ◌≡◌, ◌≤◌, ◌+◌, refl, sym, ◌∙◌, subst, not, length, ◌++◌, ◌∷◌, [], None, arith}
 use Rattle.std.specs.Prelude.{vec_len, vec_capacity}
 use Rattle.turk_base.specs.Names.{path_in}
-use Rattle.run_heap.specs.Core.{Core}
 use Rattle.eval_ops.specs.declared.Outer.{Outer}
 use Rattle.eval_ops.specs.Run.{Run, seen_of}
-use Rattle.eval_ops.specs.Stored.{run_of, IsRun, HasRoom}
+use Rattle.eval_ops.specs.Stored.{run_of}
 use Rattle.eval_ops.specs.Calls.{Enters}
 use Rattle.eval_ops.proofs.Marks.{scopes_many}
 use Rattle.eval_ops.proofs.Machines.{same_machine}

@@ -1,4 +1,4 @@
-use Rattle.std.proofs.Common.{rules, ◌≡◌, ◌≤◌, refl, ap, sym, ◌∙◌, subst, List, ◌++◌, ◌∷◌, []}
+use Rattle.std.proofs.Common.{rules, ◌≡◌, ◌≤◌, sym, subst, List, ◌++◌, ◌∷◌, []}
 use Rattle.turk_base.specs.State.{give_value}
 use Rattle.value_cells.specs.declared.Value.{Value}
 use Rattle.value_cells.specs.Needs.{needs}
@@ -6,7 +6,7 @@ use Rattle.value_cells.specs.Seen.{val_in}
 use Rattle.eval_ops.specs.Run.{Run, seen_of, count}
 use Rattle.eval_ops.specs.Stored.{run_of, IsRun}
 use Rattle.eval_ops.specs.Calls.{Changes}
-use Rattle.eval_ops.proofs.Notes.{given, gives, given_run}
+use Rattle.eval_ops.proofs.Notes.{gives, given_run}
 use Rattle.eval_ops.proofs.Machine.give.Goals as goal
 
 pub invariant_of-self-2 : goal.invariant_of-self-2

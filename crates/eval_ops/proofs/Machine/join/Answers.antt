@@ -1,16 +1,14 @@
-use Rattle.std.proofs.Common.{rules, ◌≡◌, ◌<◌, ◌≤◌, refl, sym, ap, ◌∙◌, subst, Bool, true, false, List, ℕ, length, [], Some, None, map, slice_get, arith}
-use Rattle.std.specs.Prelude.{reverse, Ok, Err, vec_capacity}
+use Rattle.std.proofs.Common.{rules, ◌≡◌, ◌<◌, ◌≤◌, sym, ap, ◌∙◌, subst, Bool, true, false, List, length, [], Some, None, map, arith}
+use Rattle.std.specs.Prelude.{reverse, Ok, Err}
 use Rattle.turk_base.specs.Names.{path_in}
-use Rattle.turk_base.specs.Values.{Val}
 use Rattle.turk_base.specs.State.{any_gone}
-use Rattle.turk_base.specs.Steps.{give, joined, fill, steps_of}
+use Rattle.turk_base.specs.Steps.{joined, fill}
 use Rattle.value_cells.specs.declared.Value.{Value}
 use Rattle.value_cells.specs.declared.Value.TheVariants as code
-use Rattle.value_cells.specs.declared.OpStop.TheVariants.{TooLong, Memory}
-use Rattle.value_cells.specs.Needs.{all_needs}
-use Rattle.value_cells.specs.Seen.{Naming, val_in}
-use Rattle.value_cells.specs.Does.{Says, told, told_stop}
-use Rattle.run_heap.specs.Core.{Core, Rests, count, names_in}
+use Rattle.value_cells.specs.declared.OpStop.TheVariants.{TooLong}
+use Rattle.value_cells.specs.Seen.{val_in}
+use Rattle.value_cells.specs.Does.{Says, told_stop}
+use Rattle.run_heap.specs.Core.{Core, count, names_in}
 use Rattle.run_heap.specs.Works.{Works}
 use Rattle.run_heap.proofs.Turn.{works_give}
 use Rattle.run_heap.proofs.Whole.{rests_same, rests_then}
@@ -18,7 +16,7 @@ use Rattle.eval_ops.specs.Run.{Run, seen_of}
 use Rattle.eval_ops.specs.Stored.{run_of, IsRun}
 use Rattle.eval_ops.specs.Calls.{Joins}
 use Rattle.eval_ops.proofs.Machines.{with_heap, run_same, room_kept, rests_base, stays_of}
-use Rattle.eval_ops.proofs.Joins.{cleared, cleared_run, cleared_room, joins_none, joins_many, joins_fails, joins_exit, joins_value, joins_out, few_values, array_filled, array_out}
+use Rattle.eval_ops.proofs.Joins.{cleared_run, joins_none, joins_many, joins_fails, joins_exit, joins_value, joins_out, few_values, array_filled, array_out}
 use Rattle.eval_ops.proofs.Machine.join.Goals as goal
 
 pub returns-then-any_absent-clause-did : goal.returns-then-any_absent-clause-did

@@ -1,6 +1,5 @@
-use Rattle.std.proofs.Common.{rules, ◌≡◌, ◌≤◌, ◌<◌, refl, ap, sym, ◌∙◌, subst, ℕ, List, ◌++◌, ◌∷◌, [], length, take, Some, arith}
-use Rattle.run_heap.specs.Core.{Core}
-use Rattle.eval_ops.specs.Run.{Run, scopes, seen_of}
+use Rattle.std.proofs.Common.{◌≡◌, ◌<◌, refl, sym, ◌∙◌, subst, ℕ, length, Some, arith}
+use Rattle.eval_ops.specs.Run.{Run, seen_of}
 use Rattle.eval_ops.specs.Stored.{run_of, HasRoom}
 use Rattle.eval_ops.specs.Calls.{LeavesBack}
 use Rattle.eval_ops.proofs.Marks.{scopes_many}

@@ -1,7 +1,6 @@
-use Rattle.std.proofs.Common.{rules, ◌≡◌, ◌≤◌, ◌<◌, refl, ap, sym, ◌∙◌, subst, ℕ, List, ◌++◌, ◌∷◌, [], length, None, arith}
-use Rattle.run_heap.specs.Core.{Core}
-use Rattle.eval_ops.specs.Run.{Run, scopes, seen_of}
-use Rattle.eval_ops.specs.Stored.{run_of, HasRoom}
+use Rattle.std.proofs.Common.{◌≡◌, ◌<◌, refl, sym, ◌∙◌, subst, length, None, arith}
+use Rattle.eval_ops.specs.Run.{Run, seen_of}
+use Rattle.eval_ops.specs.Stored.{run_of}
 use Rattle.eval_ops.specs.Calls.{LeavesKeep}
 use Rattle.eval_ops.proofs.Marks.{scopes_many}
 use Rattle.eval_ops.proofs.Scoping.{goes_keep, keep_whole, keep_room}

@@ -1,11 +1,10 @@
-use Rattle.std.proofs.Common.{◌≡◌, ◌<◌, ◌≤◌, refl, sym, ap, ◌∙◌, subst, List, ℕ, false, length, [], None, arith}
+use Rattle.std.proofs.Common.{◌≡◌, sym, ap, ◌∙◌, subst, List, false, length, None, arith}
 use Rattle.std.specs.Prelude.{vec_capacity}
 use Rattle.turk_base.specs.Names.{Name}
 use Rattle.turk_base.specs.Values as model
 use Rattle.turk_base.specs.Prog.{Make}
 use Rattle.value_cells.specs.Seen.{Naming}
 use Rattle.value_cells.specs.Does.{Does, Says}
-use Rattle.run_heap.specs.Core.{names_in}
 use Rattle.run_heap.proofs.Tables.{count_names}
 use Rattle.eval_ops.specs.Run.{Run, seen_of}
 use Rattle.eval_ops.specs.Stored.{IsRun, HasRoom}

@@ -1,4 +1,4 @@
-use Rattle.std.proofs.Common.{◌≡◌, refl, ap, sym, subst}
+use Rattle.std.proofs.Common.{◌≡◌, ap, sym, subst}
 use Rattle.turk_base.specs.State.{next_call}
 use Rattle.run_heap.specs.Core.{Core}
 use Rattle.eval_ops.specs.Run.{Run, seen_of}

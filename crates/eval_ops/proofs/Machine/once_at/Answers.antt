@@ -1,4 +1,4 @@
-use Rattle.std.proofs.Common.{◌≡◌, refl, ap, sym, subst}
+use Rattle.std.proofs.Common.{subst}
 use Rattle.turk_base.specs.Names.{path_in}
 use Rattle.turk_base.specs.State.{once_call}
 use Rattle.branch_check.specs.Watch.{after_once}

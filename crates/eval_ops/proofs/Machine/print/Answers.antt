@@ -1,11 +1,11 @@
-use Rattle.std.proofs.Common.{rules, ◌≡◌, ◌+◌, ◌-◌, ◌≤◌, refl, ap, sym, ◌∙◌, subst, ℕ, suc, List, ◌++◌, ◌∷◌, [], length, arith}
+use Rattle.std.proofs.Common.{◌≡◌, ◌+◌, ◌-◌, ◌≤◌, refl, ap, sym, subst, ℕ, suc, List, length, arith}
 use Rattle.turk_base.specs.Prog.{Print}
 use Rattle.value_cells.specs.declared.OpStop.{OpStop}
 use Rattle.value_cells.specs.declared.OpStop.TheVariants.{Spent, Memory}
 use Rattle.value_cells.specs.Seen.{Naming}
-use Rattle.value_cells.specs.Does.{Says, Fails, Does, told, told_stop}
+use Rattle.value_cells.specs.Does.{Says, Fails, Does, told_stop}
 use Rattle.run_heap.specs.Core.{Core, names_in}
-use Rattle.eval_ops.specs.Run.{Run, around, seen_of}
+use Rattle.eval_ops.specs.Run.{Run, seen_of}
 use Rattle.eval_ops.specs.Stored.{run_of, IsRun}
 use Rattle.eval_ops.proofs.Machines.{with_heap, rests_base, stays_of, does_fail, does_exit, run_kept, room_kept}
 use Rattle.eval_ops.proofs.Prints.{print_does, print_spends, printed_run}

@@ -1,9 +1,9 @@
-use Rattle.std.proofs.Common.{◌≡◌, ◌≤◌, subst}
+use Rattle.std.proofs.Common.{subst}
 use Rattle.turk_base.specs.Steps.{put_data}
 use Rattle.value_cells.specs.Seen.{Naming, val_in}
 use Rattle.value_cells.specs.Does.{told}
 use Rattle.run_heap.specs.Works.{Performs}
-use Rattle.eval_ops.specs.Run.{Run, seen_of, count}
+use Rattle.eval_ops.specs.Run.{Run, seen_of}
 use Rattle.eval_ops.specs.Stored.{run_of}
 use Rattle.eval_ops.proofs.Machines.{with_heap, heap_did, run_kept, room_kept}
 use Rattle.eval_ops.proofs.Machine.put_data.Goals as goal

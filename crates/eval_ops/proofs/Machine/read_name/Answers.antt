@@ -1,9 +1,8 @@
-use Rattle.std.proofs.Common.{◌≡◌, ◌≤◌, subst}
+use Rattle.std.proofs.Common.{◌≤◌, subst}
 use Rattle.turk_base.specs.Prog.{ReadName}
 use Rattle.turk_base.specs.Steps.{steps_of}
 use Rattle.value_cells.specs.Seen.{Naming, val_in}
 use Rattle.value_cells.specs.Does.{Does, told}
-use Rattle.run_heap.specs.Core as core
 use Rattle.eval_ops.specs.Run.{Run, around, seen_of, count}
 use Rattle.eval_ops.specs.Stored.{run_of}
 use Rattle.eval_ops.proofs.Machines.{with_heap, heap_did, more, run_kept, room_kept}

@@ -1,11 +1,10 @@
-use Rattle.std.proofs.Common.{◌≡◌, true, ◌<◌, ap, sym, ◌∙◌, subst, suc, ◌+◌, Some, slice_get, length, drop, map, arith}
+use Rattle.std.proofs.Common.{◌≡◌, true, ap, sym, subst, suc, ◌+◌, drop, map, arith}
 use Rattle.turk_base.specs.Steps.{give, element, fill}
 use Rattle.value_cells.specs.declared.Value.{Value}
 use Rattle.value_cells.specs.declared.Value.TheVariants.{Object}
 use Rattle.value_cells.specs.Needs.{needs}
 use Rattle.value_cells.specs.Seen.{Naming, val_in}
 use Rattle.value_cells.specs.Does.{Says, Fails, told_stop}
-use Rattle.run_heap.specs.Core.{count}
 use Rattle.run_heap.specs.Works.{Works}
 use Rattle.run_heap.proofs.Index_keys.{drop_next, no_more}
 use Rattle.run_heap.proofs.Turn.{err_exit, works_fails, works_give, keeps_same}

@@ -1,9 +1,9 @@
-use Rattle.std.proofs.Common.{◌≡◌, true, ap, sym, ◌∙◌, subst, arith, decimal}
+use Rattle.std.proofs.Common.{true, subst}
 use Rattle.turk_base.specs.Cells.{put}
 use Rattle.turk_base.specs.State.{change}
 use Rattle.turk_base.specs.Steps.{give, step, element}
 use Rattle.value_cells.specs.Seen.{val_in}
-use Rattle.value_cells.specs.Does.{Says, told, told_stop}
+use Rattle.value_cells.specs.Does.{Says, told_stop}
 use Rattle.run_heap.specs.Works.{Works}
 use Rattle.run_heap.proofs.Turn.{err_exit}
 use Rattle.run_data.proofs.Puts.{paid_ends, paid_out}

@@ -1,24 +1,20 @@
-use Rattle.std.proofs.Common.{◌≡◌, List, ◌<◌, ◌≤◌, false, refl, ap, sym, ◌∙◌, subst, ℕ, suc, ◌+◌, Some, None, slice_get, length, drop, arith}
+use Rattle.std.proofs.Common.{◌≡◌, List, ◌≤◌, false, ap, sym, subst, ℕ, suc, ◌+◌, None, length, drop, arith}
 use Rattle.turk_base.specs.Values as model
 use Rattle.turk_base.specs.Values.{Val}
-use Rattle.turk_base.specs.Data.{Data, DText, nesting_items, nesting_fields, DList, DFields, nesting, items_of, fields_of}
-use Rattle.turk_base.specs.Cells.{put}
-use Rattle.turk_base.specs.State.{charge, change, make}
-use Rattle.turk_base.specs.Steps.{give, step, element, pays, put_data, put_items, put_fields}
+use Rattle.turk_base.specs.Data.{Data, nesting_items, nesting_fields, DList, DFields, nesting, items_of, fields_of}
+use Rattle.turk_base.specs.State.{charge, make}
+use Rattle.turk_base.specs.Steps.{give, step, pays, put_data, put_items, put_fields}
 use Rattle.turk_base.specs.Node.{data_of}
 use Rattle.turk_base.specs.declared.Node.{Node}
-use Rattle.value_cells.specs.declared.Value.TheVariants as code
-use Rattle.value_cells.specs.Needs.{needs}
 use Rattle.value_cells.specs.Seen.{Naming, val_in}
-use Rattle.value_cells.specs.Does.{Says, Fails, told, told_stop}
-use Rattle.run_heap.specs.Core.{count}
+use Rattle.value_cells.specs.Does.{Says, told, told_stop}
 use Rattle.run_heap.specs.Works.{Works}
 use Rattle.run_heap.proofs.Index_keys.{drop_next, no_more}
-use Rattle.run_heap.proofs.Turn.{err_exit, fails_exit, works_fails, works_give, keeps_same}
+use Rattle.run_heap.proofs.Turn.{err_exit, fails_exit, works_give, keeps_same}
 use Rattle.run_heap.proofs.Whole.{rests_then, rests_same}
 use Rattle.run_data.specs.Short.{IsShort, AreItemsShort, AreFieldsShort}
 use Rattle.run_data.proofs.Parts.{list_short, list_deep, plain_short, plain_deep, read_at, items_short_at, items_nesting_at, fields_short_at, fields_nesting_at}
-use Rattle.run_data.proofs.Puts.{failed, items_on, items_out, items_stop, fields_on, fields_unpaid, fields_out, fields_stop, prim_ends, cell_ends, cell_out, unpaid}
+use Rattle.run_data.proofs.Puts.{items_on, items_out, items_stop, fields_on, fields_unpaid, fields_out, fields_stop, cell_ends, cell_out, unpaid}
 use Rattle.run_data.proofs.putting.+putting.Goals as goal
 
 pub put_items-loop-place-init : goal.put_items-loop-place-init

@@ -1,4 +1,4 @@
-use Rattle.std.proofs.Common.{◌≡◌, ◌+◌, ◌*◌, ◌≤◌, drop}
+use Rattle.std.proofs.Common.{◌+◌, ◌*◌, ◌≤◌, drop}
 use Rattle.turk_base.specs.Values.{Val}
 use Rattle.turk_base.specs.Data.{items_of, fields_of}
 use Rattle.turk_base.specs.Steps.{put_items, put_fields}

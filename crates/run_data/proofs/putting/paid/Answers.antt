@@ -1,4 +1,3 @@
-use Rattle.std.proofs.Common.{◌≡◌}
 use Rattle.turk_base.specs.State.{charge}
 use Rattle.turk_base.specs.Steps.{give, pays, step}
 use Rattle.value_cells.specs.Seen.{Naming, val_in}

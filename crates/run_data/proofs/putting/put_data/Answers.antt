@@ -1,4 +1,4 @@
-use Rattle.std.proofs.Common.{◌≡◌, subst}
+use Rattle.std.proofs.Common.{subst}
 use Rattle.turk_base.specs.Data.{Data}
 use Rattle.turk_base.specs.Steps.{put_data}
 use Rattle.value_cells.specs.Seen.{Naming, val_in}

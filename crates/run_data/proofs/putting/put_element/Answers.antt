@@ -1,4 +1,4 @@
-use Rattle.std.proofs.Common.{◌≡◌, false, ap, sym, ◌∙◌, subst, ◌<◌, arith, decimal}
+use Rattle.std.proofs.Common.{false, subst, ◌<◌, arith}
 use Rattle.turk_base.specs.Cells.{put}
 use Rattle.turk_base.specs.State.{change}
 use Rattle.turk_base.specs.Steps.{give, step, element}

@@ -1,4 +1,4 @@
-use Rattle.std.proofs.Common.{◌≡◌, ◌<◌, sym, subst}
+use Rattle.std.proofs.Common.{◌<◌, sym, subst}
 use Rattle.turk_base.specs.Prog.{KindOf}
 use Rattle.value_cells.specs.Seen.{Naming, count, kind_in}
 use Rattle.value_cells.specs.Does.{Does, Says}

@@ -1,10 +1,9 @@
-use Rattle.std.proofs.Common.{◌≡◌, ◌≤◌, subst, length, arith}
+use Rattle.std.proofs.Common.{◌≤◌, subst}
 use Rattle.turk_base.specs.Prog.{Pay}
 use Rattle.turk_base.specs.State.{charge}
 use Rattle.turk_base.specs.Steps.{give, step}
 use Rattle.value_cells.specs.Seen.{Naming, count}
 use Rattle.value_cells.specs.Does.{Does, told}
-use Rattle.run_heap.specs.Core as core
 use Rattle.eval_ops.specs.Run.{Run, around, seen_of}
 use Rattle.eval_ops.specs.Stored.{run_of}
 use Rattle.eval_ops.proofs.Machines.{with_heap, pay_does, more, more_seen, run_kept, room_kept}
