@@ -23,7 +23,8 @@ use value_cells::{CellKind, Value};
 /// How many nodes may be open.
 const NODES: u32 = 800;
 
-/// An expression, with so many nodes open at most: it pays 1, and one that is open past them is refused.
+/// An expression, with so many nodes open at most, itself among them. It pays 1; where none may be open it is then refused as
+/// too deep. What ends it otherwise than with a value is the exit: a throw, a halt of the run or the branch, or a stop.
 #[cycle(eval)]
 pub fn expr<H: Host>(
     alloc: Global,
@@ -56,7 +57,7 @@ pub fn expr<H: Host>(
     expr_node(&below, codes, host, here, e)
 }
 
-/// A statement, with so many nodes open at most.
+/// A statement, with so many nodes open at most, itself among them; it pays and is refused as an expression is.
 #[cycle(eval)]
 pub fn stmt<H: Host>(
     alloc: Global,
@@ -89,8 +90,9 @@ pub fn stmt<H: Host>(
     below.stmt_node(codes, host, here, s)
 }
 
-/// A whole script (14), whose functions have these codes: the global frame with the names that the script declares, then its
-/// statements, with 800 nodes open at most. What the branches that it forked leave is not joined here.
+/// A whole script (ECMA-262 3rd ed. 14), whose functions have these codes: the global frame with the names that the script
+/// declares, then its statements, with 800 nodes open at most. The branches that it forked aren't joined here, and a throw
+/// that nothing caught is an exit like any other. The parameters of the script's own code aren't looked at.
 pub fn script<H: Host>(
     alloc: Global,
     codes: &Codes,
