@@ -38,7 +38,8 @@ pub fn codes_of<'a>(alloc: Global, script: &'a Script) -> Result<Codes<'a>, NoMe
 
 /// A script as a code without parameters. It is refused only for want of memory.
 pub fn whole<'a>(alloc: Global, script: &'a Script) -> Result<CodeRef<'a>, NoMemory>
-    ensures { IfOk result (λ code. code_in code ≡ record { parameters = []; body = script.now }) }
+    ensures body { IfOk result (λ code. code.body.now ≡ script.now) }
+    ensures parameters { IfOk result (λ code. code.parameters.now ≡ []) }
 {
     code_of(alloc, &[], script)
 }
