@@ -1,5 +1,5 @@
 -- What the units of a text come to between quotation marks, one after another.
-use Rattle.std.proofs.Common.{◌≡◌, ◌∷◌, [], ◌++◌, ◌+◌, ◌<◌, ◌≤◌, ℕ, suc, List, Bool, true, false, refl, ap, sym, ◌∙◌, length, drop, get_or, arith, add-one}
+use Rattle.std.proofs.Common.{◌≡◌, ◌∷◌, [], ◌++◌, ◌+◌, ◌<◌, ◌≤◌, ℕ, suc, List, true, false, refl, ap, sym, ◌∙◌, length, drop, get_or, arith, add-one}
 use Rattle.std.proofs.Math.ListN.{drop_of_length-le}
 use Rattle.std.proofs.Math.Seq.{drop-cons}
 use Rattle.std.proofs.lemmas.List.{append-nil, append_assoc, length-drop}

@@ -93,5 +93,9 @@ fn hex_digit(number: u16) -> u16
     requires { number < 16 }
     ensures { result ≡ hex_digit number }
 {
-    if number < 10 { 48 + number } else { 87 + number }
+    if number < 10 {
+        48 + number
+    } else {
+        87 + number
+    }
 }

@@ -1,4 +1,4 @@
-use Rattle.std.proofs.Common.{◌≡◌, ◌≤◌, sym, ◌∙◌, ap, length, arith}
+use Rattle.std.proofs.Common.{◌≤◌, sym, ◌∙◌, length, arith}
 use Rattle.std.proofs.lemmas.List.{append-nil}
 use Rattle.run_texts.proofs.Escaping.{escaped_none}
 use Rattle.run_texts.proofs.quotes.push_escaped.Goals as goal
