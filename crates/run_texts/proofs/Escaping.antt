@@ -5,16 +5,16 @@ use Rattle.std.proofs.Math.Seq.{drop-cons}
 use Rattle.std.proofs.lemmas.List.{append-nil, append_assoc, length-drop}
 use Rattle.run_texts.specs.Texts.{begins_pair, single, escaped}
 
-nothing : escaped [] ≡ []
+pub nothing : escaped [] ≡ []
 unfolding escaped
 nothing = refl
 
-one : (u : ℕ) (us : List ℕ) → begins_pair (u ∷ us) ≡ false → escaped (u ∷ us) ≡ single u ++ escaped us
+pub one : (u : ℕ) (us : List ℕ) → begins_pair (u ∷ us) ≡ false → escaped (u ∷ us) ≡ single u ++ escaped us
 unfolding escaped
 one u [] apart = sym (append-nil (single u))
 one u (v ∷ us) apart = rw apart
 
-two : (u v : ℕ) (us : List ℕ) → begins_pair (u ∷ v ∷ us) ≡ true → escaped (u ∷ v ∷ us) ≡ u ∷ v ∷ escaped us
+pub two : (u v : ℕ) (us : List ℕ) → begins_pair (u ∷ v ∷ us) ≡ true → escaped (u ∷ v ∷ us) ≡ u ∷ v ∷ escaped us
 unfolding escaped
 two u v us pair = rw pair
 

@@ -4,6 +4,7 @@
 //! alone; after it the text may end with a part of what was to be added.
 #![tactic(auto)]
 
+pub mod laws;
 mod lines;
 mod parts;
 mod quotes;

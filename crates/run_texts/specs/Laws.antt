@@ -1,0 +1,12 @@
+-- What quoted texts tell (own rule).
+use Rattle.std.specs.Prelude.{ℕ, ◌≤◌, ◌≡◌, List}
+use Rattle.std.specs.List.{All}
+use Rattle.run_texts.specs.Texts.{quoted}
+
+-- no unit of a quoted text is below 32: it stands on one line
+abbrev pub StandsOnOneLine : Type 0
+StandsOnOneLine = (us : List ℕ) → All (λ u. 32 ≤ u) (quoted us)
+
+-- texts that are quoted alike are the same
+abbrev pub TellsItsUnits : Type 0
+TellsItsUnits = (us vs : List ℕ) → quoted us ≡ quoted vs → us ≡ vs
