@@ -1,2 +1,3 @@
 mod Escaping
+mod Pairing
 mod Telling

@@ -11,15 +11,15 @@ use Rattle.run_texts.proofs.Escaping.{nothing, one, two}
 
 -- ---- a unit that stands in no pair
 
-abbrev by_number : ℕ → Bool
+abbrev pub by_number : ℕ → Bool
 by_number u = nat_lt u 32 || is_high_surrogate u || is_low_surrogate u
 
-data Kind (u : ℕ) : Type 0 where
+pub data Kind (u : ℕ) : Type 0 where
   mark : is_mark u ≡ true → single u ≡ 92 ∷ u ∷ [] → Kind u
   number : single u ≡ 92 ∷ 117 ∷ four_digits u → Kind u
   itself : is_mark u ≡ false → by_number u ≡ false → single u ≡ u ∷ [] → Kind u
 
-kind : (u : ℕ) → Kind u
+pub kind : (u : ℕ) → Kind u
 kind u = by (is_mark u) (by_number u) refl refl
   where
     by : (m b : Bool) → is_mark u ≡ m → by_number u ≡ b → Kind u
@@ -131,12 +131,12 @@ some v s (itself _ _ is) none =
 
 -- ---- what a text begins with
 
-data Begins (us : List ℕ) : Type 0 where
+pub data Begins (us : List ℕ) : Type 0 where
   empty : us ≡ [] → escaped us ≡ [] → Begins us
   pair : (u v : ℕ) (rest : List ℕ) → us ≡ u ∷ v ∷ rest → is_high_surrogate u ≡ true → is_low_surrogate v ≡ true → escaped us ≡ u ∷ v ∷ escaped rest → Begins us
   unit : (u : ℕ) (rest : List ℕ) → us ≡ u ∷ rest → escaped us ≡ single u ++ escaped rest → Begins us
 
-begins : (us : List ℕ) → Begins us
+pub begins : (us : List ℕ) → Begins us
 begins [] = empty refl nothing
 begins (u ∷ []) = unit u [] refl (one u [] refl)
 begins (u ∷ v ∷ us) = by (is_high_surrogate u) (is_low_surrogate v) refl refl
