@@ -1,0 +1,3 @@
+mod Escaping
+mod Pairing
+mod Telling
