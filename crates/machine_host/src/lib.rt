@@ -11,6 +11,7 @@ use turk_base::{Data, Name, Path, Units, Whole};
 mod exits;
 mod guarded;
 mod requests;
+mod scopes;
 
 /// What a run waits for: a task's reply, or nothing, where it crashed in that scope.
 #[derive(Drop)]
