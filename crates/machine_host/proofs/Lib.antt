@@ -1,3 +1,4 @@
 pub mod Answered
 pub mod Bridge
+pub mod Halting
 pub mod Turns

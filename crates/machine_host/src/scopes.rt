@@ -1,5 +1,5 @@
 //! What hangs on the scope that runs: joining, forks, crashes; and the built-in calls.
-ghost use Rattle.std.specs.Prelude.{◌≡◌, ◌≤◌, IfOk, IfErr, true, map};
+ghost use Rattle.std.specs.Prelude.{◌≡◌, ◌≤◌, ◌∷◌, ◌++◌, [], IfOk, IfErr, OnOk, OnErr, true, map};
 ghost use Rattle.turk_base.specs.Prog.{Join, MayFork, Crash, ask};
 ghost use Rattle.turk_base.specs.BuiltIns.{call_built_in};
 ghost use Rattle.value_cells.specs.Needs.{needs, all_needs};
@@ -15,7 +15,19 @@ use crate::{AskedRun, Wait};
 use ask_model::{AskStop, Asker};
 use builtin_calls::call_made;
 use run_host::{Exit, Halt, Refusal};
+use turk_base::NoMemory;
 use value_cells::Value;
+
+/// Notes a wait after the others. After want of memory they are as before.
+pub fn note(waits: &mut Vec<Wait>, wait: Wait) -> Result<(), NoMemory>
+    ensures ok { OnOk result (waits.new.items ≡ waits.old.items ++ wait ∷ []) }
+    ensures err { OnErr result (waits.new.items ≡ waits.old.items) }
+{
+    match waits.push(wait) {
+        Ok(()) => Ok(()),
+        Err(_) => Err(NoMemory),
+    }
+}
 
 impl<A: Asker> AskedRun<A> {
     /// A built-in call by its number, with `this` and its arguments. What it throws was made.
@@ -78,9 +90,9 @@ impl<A: Asker> AskedRun<A> {
         let Ok(scope) = self.guarded.machine.path().copy(self.alloc) else {
             return Exit::Stopped(AskStop::Memory);
         };
-        if self.notes.waits.push(Wait::Crashed(scope)).is_err() {
-            return Exit::Stopped(AskStop::Memory);
+        match note(&mut self.notes.waits, Wait::Crashed(scope)) {
+            Ok(()) => Exit::Halted(Halt::Waits),
+            Err(_) => Exit::Stopped(AskStop::Memory),
         }
-        Exit::Halted(Halt::Waits)
     }
 }
