@@ -1,4 +1,5 @@
 pub mod Answered
 pub mod Bridge
+pub mod Calls
 pub mod Halting
 pub mod Turns
