@@ -15,7 +15,7 @@ use Rattle.turk_base.specs.Steps.{Small, give}
 use Rattle.turk_base.specs.Steps as steps
 use Rattle.turk_base.specs.Trace as told
 use Rattle.turk_base.specs.Told.{record_of, records_of}
-use Rattle.js_tree.specs.Run.{Out, ended, waits, halted, diverged, Res, res, add, on_kept, on_ask, unanswered, run_steps}
+use Rattle.js_tree.specs.Run.{Out, ended, waits, halted, undrawn, diverged, Res, res, add, on_kept, on_ask, unanswered, run_steps}
 use Rattle.js_tree.specs.World as meaning
 use Rattle.js_tree.specs.World.{World, Rest, Draws, Fresh, fresh, fresh_reply, fresh_draw, drew, noted, kept_answer, diverges, found_kept, found_below, called_by, draw_of}
 use Rattle.run_laws.proofs.Sequel.{Place, run_at}
@@ -36,9 +36,10 @@ use Rattle.run_host.specs.declared.Exit.TheVariants as exit
 use Rattle.run_host.specs.declared.Halt.{Halt}
 use Rattle.run_host.specs.declared.Halt.TheVariants as halt
 use Rattle.run_host.specs.Moment.{Moment, cells, rest_of, draws_in, drawn_by, AllDealt, Deals, Suits, Clear, place, Same, Within}
+use Rattle.run_host.specs.Moment as moment
 use Rattle.run_host.specs.Told as shown
 use Rattle.run_host.specs.Told.{Told, next_of, IsShown, told_exit}
-use Rattle.run_host.specs.Ends.{Comes, says, halts, fails}
+use Rattle.run_host.specs.Ends.{Like, Comes, says, halts, fails}
 use Rattle.run_host.specs.Did.{Runs}
 use Rattle.run_host.specs.Steps.{Step, Leaves, Gives, Takes}
 use Rattle.run_host.proofs.Comes.{add_add, halted_then}
@@ -236,3 +237,138 @@ module _ (q : Question) (f : Step (AnsOf q)) (is : Asks f (steps.ask q give)) (s
       let drawn : drew q w ≡ rest_of (with_record a.what) = drew_is q E (draws_in m.made) (path_in p) a w e ∙ (λ i. record { left = sym x.left i; drawn = sym (draws_more m.made (path_in p) a.what) i; forks = m.forks; waits = m.waits }) in
       ask_run nu E k None false (Some a) (what_none (find (at_call nu) m.trace) (what_there nu c ∙ unfound)) (below_there nu c ∙ unbelow) (ap (λ z. fresh q E (draws_in m.made) z) (sym (x.path nu)) ∙ e)
       ∙ (λ i. add (rec (sym (x.path nu) i) a.what ∷ []) (k a.answer (sym (x.first nu fits) i) (drawn i))))
+
+  -- where nothing answers and the run waits
+  abbrev with_wait : Moment
+  with_wait = record m { heap = n.heap; waits = (noted q (rest_of m)).waits }
+
+  noted_is : (z : Question) (left : ℕ) → left ≡ m.heap.left → noted z (rest_of m) ≡ record { left = left; drawn = draws_in m.made; forks = m.forks; waits = (noted z (rest_of m)).waits }
+  noted_is (posts t) left e = λ i. record (rest_of m) { left = sym e i }
+  noted_is (replies t) left e = λ i. record (noted (replies t) (rest_of m)) { left = sym e i }
+  noted_is (draws b) left e = λ i. record (rest_of m) { left = sym e i }
+
+  same_first : (nu : Naming) → Fits nu n.heap.names → Like (next_call (m.heap.first nu)) (n.heap.first nu)
+  same_first nu fits = let e = x.first nu fits in record { text = ap (λ (σ : St). σ.text) (sym e); verdict = ap (λ (σ : St). σ.verdict) (sym e); gone = ap (λ (σ : St). σ.gone) (sym e) }
+
+  ask_missing : told.at (known_to s) p ≡ None → told.below (known_to s) p ≡ false → unanswered q ≡ waits → ((E : World) → Suits E with_wait → fresh q E (draws_in m.made) (path_in p) ≡ None) → Leaves (λ nu. f) (exit.Halted halt.Waits) m with_wait
+  ask_missing unfound unbelow out d = halts_at (λ nu. f) (λ nu. steps.ask q give) (λ nu. is) m with_wait halt.Waits waits (λ nu. refl)
+      (record { session = refl; trace = refl; pairs = refl; grows = grown })
+      (record { scope = x.scope; outer = x.outer; below = below_new; falls = let h = x.left in omega (arith, h) })
+      refl
+      (λ nu fits E su c. record {
+        at = next_call (m.heap.first nu);
+        left = n.heap.left;
+        like = same_first nu fits;
+        is = λ k.
+        ask_run nu E k None false None (what_none (find (at_call nu) m.trace) (what_there nu c ∙ unfound)) (below_there nu c ∙ unbelow) (ap (λ z. fresh q E (draws_in m.made) z) (sym (x.path nu)) ∙ d E su)
+        ∙ (λ i. res (out i) (next_call (m.heap.first nu)) (noted_is q n.heap.left x.left i));
+      })
+
+  noted_waits : (z : Question) → (noted z (rest_of (record m { heap = n.heap }))).waits ≡ (noted z (rest_of m)).waits
+  noted_waits (posts t) = refl
+  noted_waits (replies t) = refl
+  noted_waits (draws b) = refl
+
+  -- where the asker refused the record
+  abbrev with_refusal : AskStop → Moment
+  with_refusal why = record m { heap = n.heap; stopped = Some why; unmade = moment.asking (path_in p) q }
+
+  follows_fresh : (nu : Naming) (E : World) (k : AnsOf q → Rest → Res) (o : Option (Fresh q)) → (o ≡ None → unanswered q ≡ halted undrawn)
+      → Follows [] (shown.next_fresh (path_in p) o) (on_ask q None false o E (at_call nu) (next_call (m.heap.first nu)) (rest_of m) k)
+  follows_fresh nu E k (Some a) h = front _ (ap (λ z. rec z a.what ∷ (k a.answer (drew q (rest_of m))).made) (sym (x.path nu)))
+  follows_fresh nu E k None h = (h refl, refl)
+
+  follows_why : (why : AskStop) (E : World) (r : Res) → Follows [] (shown.next_fresh (path_in p) (fresh q E (draws_in m.made) (path_in p))) r → Follows [] (next_of E (draws_in m.made) (moment.asking (path_in p) q) why) r
+  follows_why stop.Memory E r h = front r.made refl
+  follows_why (stop.Fault which) E r h = h
+  follows_why (stop.Diverged d) E r h = h
+  follows_why stop.TraceFull E r h = h
+  follows_why stop.LogFull E r h = h
+
+  shown_why : (why : AskStop) → IsShown (shown.Fails why) (Some why)
+  shown_why stop.Memory = tt
+  shown_why (stop.Fault which) = refl
+  shown_why (stop.Diverged d) = refl
+  shown_why stop.TraceFull = refl
+  shown_why stop.LogFull = refl
+
+  ask_refused : told.at (known_to s) p ≡ None → told.below (known_to s) p ≡ false → (why : AskStop) → ((E : World) → Suits E (with_refusal why) → fresh q E (draws_in m.made) (path_in p) ≡ None → unanswered q ≡ halted undrawn)
+      → Leaves (λ nu. f) (exit.Stopped why) m (with_refusal why)
+  ask_refused unfound unbelow why d = refused_at (λ nu. f) (λ nu. steps.ask q give) (λ nu. is) m (with_refusal why) why
+      (record { session = refl; trace = refl; pairs = refl; grows = grown }) refl (λ nu. shown_why why)
+      (λ nu fits E su c k.
+      let o = fresh q E (draws_in m.made) (path_in p) in
+      follows_why why E _ (subst (λ r. Follows [] (shown.next_fresh (path_in p) o) r)
+      (sym (ask_run nu E k None false o (what_none (find (at_call nu) m.trace) (what_there nu c ∙ unfound)) (below_there nu c ∙ unbelow) (ap (λ z. fresh q E (draws_in m.made) z) (sym (x.path nu)))))
+      (follows_fresh nu E (λ a w. k a (next_call (m.heap.first nu)) w) o (d E su))))
+
+  -- where a record answers, or diverges
+  abbrev with_index : Moment
+  with_index = record m { heap = n.heap }
+
+  found_there : (r : Record) → told.at (known_to s) p ≡ Some r → (nu : Naming) → Clear nu m → (z : Path) × (find (at_call nu) m.trace ≡ Some (rec z r))
+  found_there r here nu c = what_some (find (at_call nu) m.trace) r (what_there nu c ∙ here)
+
+  ask_kept : (r : Record) → told.at (known_to s) p ≡ Some r → (a : AnsOf q) → kept_answer q m.session (path_in p) r ≡ Some a → Gives (λ nu. f) (λ nu. a) m with_index
+  ask_kept r here a e = gives_at (λ nu. f) (λ nu. steps.ask q give) (λ nu. is) m with_index (λ nu. a) []
+      (record { session = refl; trace = refl; pairs = refl; grows = grown })
+      (record { scope = x.scope; outer = x.outer; below = below_new; falls = let h = x.left in omega (arith, h) })
+      (sym (append-nil m.made))
+      (λ nu fits c r i z. clear_with nu fits c [] (λ r o. elim o [ ]) r (subst (λ l. In Rec r l) (sym (append-nil m.made)) i) z)
+      (λ nu fits E su c k.
+      let o = found_there r here nu c in
+      let w : rest_of m ≡ rest_of with_index = λ i. record { left = sym x.left i; drawn = draws_in m.made; forks = m.forks; waits = m.waits } in
+      ask_run nu E k (Some (rec o.0 r)) (below (at_call nu) m.trace) (fresh q E (draws_in m.made) (at_call nu)) o.1 refl refl
+      ∙ (λ i. on_kept (kept_answer q (su.session i) (sym (x.path nu) i) r) (diverges (at_call nu) (found_kept r) (called_by q)) (next_call (m.heap.first nu)) (rest_of m) (λ a w. k a (next_call (m.heap.first nu)) w))
+      ∙ ap (λ o. on_kept o (diverges (at_call nu) (found_kept r) (called_by q)) (next_call (m.heap.first nu)) (rest_of m) (λ a w. k a (next_call (m.heap.first nu)) w)) e
+      ∙ (λ i. k a (sym (x.first nu fits) i) (w i)))
+
+  diverges_at : (y : Exit) (d : meaning.Divergence) → Tells y d
+      → ((nu : Naming) → Fits nu n.heap.names → (E : World) → Suits E with_index → Clear nu m → (k : AnsOf q → St → Rest → Res) →
+      run_steps (steps.ask q give) E m.trace m.heap.scope.path m.heap.scope.branch m.heap.scope.body k (m.heap.first nu) (rest_of m) ≡ res (halted (diverged d)) (next_call (m.heap.first nu)) (rest_of m))
+      → Leaves (λ nu. f) y m with_index
+  diverges_at y d t run = subst (λ y. Leaves (λ nu. f) y m with_index) (sym t.1) (halts_at (λ nu. f) (λ nu. steps.ask q give) (λ nu. is) m with_index (halt.Diverges t.0) (halted (diverged d)) (λ nu. (d, t.2, refl))
+      (record { session = refl; trace = refl; pairs = refl; grows = grown })
+      (record { scope = x.scope; outer = x.outer; below = below_new; falls = let h = x.left in omega (arith, h) })
+      refl
+      (λ nu fits E su c. record { at = next_call (m.heap.first nu); left = m.heap.left; like = same_first nu fits; is = λ k. run nu fits E su c k }))
+
+  ask_diverges : (r : Record) → told.at (known_to s) p ≡ Some r → kept_answer q m.session (path_in p) r ≡ None → (y : Exit) → Tells y (diverges (path_in p) (found_kept r) (called_by q)) → Leaves (λ nu. f) y m with_index
+  ask_diverges r here e y t = diverges_at y (diverges (path_in p) (found_kept r) (called_by q)) t
+      (λ nu fits E su c k.
+      let o = found_there r here nu c in
+      ask_run nu E k (Some (rec o.0 r)) (below (at_call nu) m.trace) (fresh q E (draws_in m.made) (at_call nu)) o.1 refl refl
+      ∙ (λ i. on_kept (kept_answer q (su.session i) (sym (x.path nu) i) r) (diverges (sym (x.path nu) i) (found_kept r) (called_by q)) (next_call (m.heap.first nu)) (rest_of m) (λ a w. k a (next_call (m.heap.first nu)) w))
+      ∙ ap (λ o. on_kept o (diverges (path_in p) (found_kept r) (called_by q)) (next_call (m.heap.first nu)) (rest_of m) (λ a w. k a (next_call (m.heap.first nu)) w)) e)
+
+  ask_below : told.at (known_to s) p ≡ None → told.below (known_to s) p ≡ true → (y : Exit) → Tells y (diverges (path_in p) found_below (called_by q)) → Leaves (λ nu. f) y m with_index
+  ask_below unfound low y t = diverges_at y (diverges (path_in p) found_below (called_by q)) t
+      (λ nu fits E su c k.
+      ask_run nu E k None true (fresh q E (draws_in m.made) (at_call nu)) (what_none (find (at_call nu) m.trace) (what_there nu c ∙ unfound)) (below_there nu c ∙ low) refl
+      ∙ (λ i. res (halted (diverged (diverges (sym (x.path nu) i) found_below (called_by q)))) (next_call (m.heap.first nu)) (rest_of m)))
+
+  -- ---- as the functions tell of them
+
+  pub kept_takes : (l : Moment) → l ≡ with_index → (r : Record) → told.at (known_to s) p ≡ Some r → (y : Result (AnsOf q) Exit) → KeptGives q m.session (path_in p) r y → Takes (λ nu. f) (λ nu a. a) y m l
+  kept_takes l e r here y h = subst (λ l. Takes (λ nu. f) (λ nu a. a) y m l) (sym e) (by y h)
+    where
+      by : (y : Result (AnsOf q) Exit) → KeptGives q m.session (path_in p) r y → Takes (λ nu. f) (λ nu a. a) y m (record m { heap = n.heap })
+      by (Ok a) h = ask_kept r here a h
+      by (Err y) (inl lost) = subst (λ y. Leaves (λ nu. f) y m (record m { heap = n.heap })) (sym lost) (lost_leaves m (record m { heap = n.heap }) (record { session = refl; trace = refl; pairs = refl; grows = grown }) refl)
+      by (Err y) (inr d) = ask_diverges r here d.0 y d.1
+
+  pub below_takes : {B : Type 0} (h : Naming → B → AnsOf q) (l : Moment) → l ≡ with_index → told.at (known_to s) p ≡ None → told.below (known_to s) p ≡ true → (y : Exit) → (y ≡ exit.Stopped stop.Memory) ⊎ Tells y (diverges (path_in p) found_below (called_by q)) → Leaves (λ nu. f) y m l
+  below_takes h l e unfound low y t = subst (λ l. Leaves (λ nu. f) y m l) (sym e) (by t)
+    where
+      by : (y ≡ exit.Stopped stop.Memory) ⊎ Tells y (diverges (path_in p) found_below (called_by q)) → Leaves (λ nu. f) y m (record m { heap = n.heap })
+      by (inl lost) = subst (λ y. Leaves (λ nu. f) y m (record m { heap = n.heap })) (sym lost) (lost_leaves m (record m { heap = n.heap }) (record { session = refl; trace = refl; pairs = refl; grows = grown }) refl)
+      by (inr d) = ask_below unfound low y d
+
+  pub ask_takes : (l : Moment) → told.at (known_to s) p ≡ None → told.below (known_to s) p ≡ false → (y : Result (AnsOf q) Exit) → asking.Asks q (path_in p) (record m { heap = n.heap }) l y → Takes (λ nu. f) (λ nu a. a) y m l
+  ask_takes l unfound low (Ok a) (asking.answered f' e d) = subst (λ l. Gives (λ nu. f) (λ nu. f'.answer) m l) (sym e) (ask_answered unfound low f' (λ E su. d E (subst (Suits E) (sym e) su)))
+  ask_takes l unfound low (Err y) (asking.missing e out d) =
+      let g : l ≡ with_wait = e ∙ ap (λ w. record m { heap = n.heap; waits = w }) (noted_waits q) in
+      subst (λ l. Leaves (λ nu. f) (exit.Halted halt.Waits) m l) (sym g) (ask_missing unfound low out (λ E su. d E (subst (Suits E) (sym g) su)))
+  ask_takes l unfound low (Err y) (asking.refused why e d) = subst (λ l. Leaves (λ nu. f) (exit.Stopped why) m l) (sym e) (ask_refused unfound low why (λ E su. d E (subst (Suits E) (sym e) su)))
+  ask_takes l unfound low (Err y) (asking.lost z h) = subst (λ y. Leaves (λ nu. f) y m l) (sym h.is)
+      (lost_leaves m l (same_trans {a = m} {b = record m { heap = n.heap }} {c = l} (record { session = refl; trace = refl; pairs = refl; grows = grown }) h.same) h.made)

@@ -8,8 +8,10 @@ use guarded::Guarded;
 use std::alloc::Global;
 use turk_base::{Data, Name, Path, Units, Whole};
 
+mod asks;
 mod exits;
 mod guarded;
+mod kept;
 mod requests;
 mod scopes;
 
