@@ -14,7 +14,7 @@ use Rattle.value_cells.specs.Seen.{Naming, Fits}
 use Rattle.run_host.specs.declared.Exit.{Exit}
 use Rattle.run_host.specs.declared.Exit.TheVariants.{Halted, Stopped}
 use Rattle.run_host.specs.declared.Halt.TheVariants.{Waits, Diverges}
-use Rattle.run_host.specs.Moment.{Moment, asking, draws_in, rest_of, Suits, Same}
+use Rattle.run_host.specs.Moment.{Moment, Unmade, asking, draws_in, rest_of, Suits, Same}
 use Rattle.run_host.specs.Told.{TellsOf}
 
 -- The call with the path p took its index, and nothing else changed.
@@ -32,6 +32,10 @@ pub record Loses (x : Exit) (old new : Moment) : Type 0 where
   pub is : x ≡ Stopped Memory
   pub same : Same old new
   pub made : new.made ≡ old.made
+
+-- A call of the asker was refused, and that is told with the record that was not made; or memory ran out.
+abbrev pub Refuses : Unmade → AskStop → Exit → Moment → Moment → Type 0
+Refuses unmade why x old new = ((x ≡ Stopped why) × (new ≡ record old { stopped = Some why; unmade = unmade })) ⊎ Loses x old new
 
 -- the exit tells of this divergence
 abbrev pub Tells : Exit → meaning.Divergence → Type 0

@@ -1,21 +1,26 @@
 //! The asks of the outside: each takes an index, and is answered by its record or by the asker.
-ghost use Rattle.std.specs.Prelude.{◌≡◌, ◌≤◌, ◌<◌, ◌≤ℤ◌, ℕ, pos, false, Some, length, IfOk, IfErr, OnErr};
+ghost use Rattle.std.specs.Prelude.{◌≡◌, ◌≤◌, ◌<◌, ◌≤ℤ◌, pos, false, None, length, IfOk, IfErr};
 ghost use Rattle.turk_base.specs.Names.{path_in};
 ghost use Rattle.turk_base.specs.Prog.{Post, Reply, Draw, ask};
 ghost use Rattle.turk_base.specs.Asks.{posts, replies, draws};
+ghost use Rattle.turk_base.specs.Trace.{at, below};
+ghost use Rattle.ask_model.specs.Asker.{known_to, IsCallPath};
 ghost use Rattle.run_heap.specs.Core.{names_in};
 ghost use Rattle.run_heap.specs.Scopes.{IsReady};
 ghost use Rattle.run_host.specs.Moment.{cells};
 ghost use Rattle.run_host.specs.Told.{exit_needs};
 ghost use Rattle.run_host.specs.Steps.{Takes};
-ghost use Rattle.machine_host.specs.Asking.{Indexed, Loses, Asks};
-ghost use Rattle.machine_host.specs.Runs.{moment_of, IsSound};
+ghost use Rattle.machine_host.specs.Asking.{Indexed, Loses, Refuses, Asks};
+ghost use Rattle.machine_host.specs.Moments.{unmade_in};
+ghost use Rattle.machine_host.specs.Sound.{IsGood, AreOpen};
+ghost use Rattle.machine_host.specs.Runs.{heap_of, moment_of, IsSound};
 
+use crate::kept::token_at;
+use crate::stops::copy_stop;
 use crate::{AskedRun, Question, Unmade};
-use ask_model::{AskStop, Asker, Called, Known};
-use run_host::{Exit, Halt};
-use std::alloc::Global;
-use turk_base::{NoMemory, Path, Units, Whole, token};
+use ask_model::{AskStop, Asker};
+use run_host::Exit;
+use turk_base::{Path, Units};
 
 /// The most indexes that a path has.
 const MOST_INDEXES: usize = 800;
@@ -50,6 +55,57 @@ impl<A: Asker> AskedRun<A> {
         match answer {
             Ok(path) => Ok(path),
             Err(_) => Err(Exit::Stopped(AskStop::Memory)),
+        }
+    }
+
+    /// Notes why the asker refused a record, and tells it. It is asked no more.
+    fn refuse(&mut self, stop: AskStop, unmade: Unmade) -> Exit
+        requires sound { A.is_sound self.old.asker }
+        requires good { IsGood (heap_of self.old) }
+        requires entered { AreOpen self.old.entered.items (heap_of self.old).outer }
+        ensures told { Refuses (unmade_in unmade) stop result (moment_of A.seen self.old) (moment_of A.seen self.new) }
+        ensures thrown { exit_needs result ≡ 0 }
+        ensures more { cells (moment_of A.seen self.old) ≤ cells (moment_of A.seen self.new) }
+        ensures sound { IsSound A.is_sound A.seen self.new }
+    {
+        self.closed = true;
+        match copy_stop(self.alloc, &stop) {
+            Ok(copy) => {
+                self.notes.stopped = Some(copy);
+                self.notes.unmade = unmade;
+                Exit::Stopped(stop)
+            }
+            Err(_) => Exit::Stopped(AskStop::Memory),
+        }
+    }
+
+    /// Posts a task whose path has no record.
+    fn post_fresh(&mut self, path: Path, text: &Units) -> Result<Units, Exit>
+        requires sound { IsSound A.is_sound A.seen self.old }
+        requires going { (A.seen self.old.asker).closed ≡ false }
+        requires new { at (known_to (A.seen self.old.asker)) path ≡ None }
+        requires none_below { below (known_to (A.seen self.old.asker)) path ≡ false }
+        requires path { IsCallPath path }
+        ensures did { Asks (posts text.now) (path_in path) (moment_of A.seen self.old) (moment_of A.seen self.new) result }
+        ensures more { cells (moment_of A.seen self.old) ≤ cells (moment_of A.seen self.new) }
+        ensures thrown { IfErr result (λ x. exit_needs x ≡ 0) }
+        ensures sound { IsSound A.is_sound A.seen self.new }
+    {
+        if text.len() > MOST_UNITS {
+            return Err(Exit::Stopped(AskStop::Memory));
+        }
+        let token = token_at(self.alloc, &self.notes.session, &path)?;
+        if token.len() > MOST_UNITS {
+            return Err(Exit::Stopped(AskStop::Memory));
+        }
+        let Ok(copy) = text.copy(self.alloc) else {
+            return Err(Exit::Stopped(AskStop::Memory));
+        };
+        match self.asker.post(&path, &token, text) {
+            Ok(()) => Ok(token),
+            Err(stop) => {
+                Err(self.refuse(stop, Unmade::Asking(path, Question::Post(copy))))
+            }
         }
     }
 }

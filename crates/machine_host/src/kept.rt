@@ -1,6 +1,7 @@
 //! What a record at the path of a call answers, and how a divergence is told.
-ghost use Rattle.std.specs.Prelude.{◌≡◌, ◌⊎◌, IfOk};
+ghost use Rattle.std.specs.Prelude.{◌≡◌, ◌⊎◌, IfOk, IfErr};
 ghost use Rattle.turk_base.specs.Names.{path_in};
+ghost use Rattle.turk_base.specs.Trace.{token_of};
 ghost use Rattle.turk_base.specs.Asks.{posts, replies, draws};
 ghost use Rattle.js_tree.specs.World.{diverges, found_kept, found_below, Found};
 ghost use Rattle.js_tree.specs.World as meaning;
@@ -48,6 +49,17 @@ pub fn diverged_below(path: Path, called: Called) -> Exit
     diverged(path, Kept::Below, called)
 }
 
+/// The token of the task that was posted at a path.
+pub fn token_at(alloc: Global, session: &Name, path: &Path) -> Result<Units, Exit>
+    ensures ok { IfOk result (λ t. t ≡ token_of session.now path.now) }
+    ensures lost { IfErr result (λ x. x ≡ Exit.Stopped AskStop.Memory) }
+{
+    match token(alloc, session, path) {
+        Ok(token) => Ok(token),
+        Err(_) => Err(Exit::Stopped(AskStop::Memory)),
+    }
+}
+
 /// What a record answers a post of this text at its path.
 pub fn post_kept(
     alloc: Global,
@@ -60,10 +72,7 @@ pub fn post_kept(
 {
     if let Record::Post(kept) = record {
         if kept == text {
-            return match token(alloc, session, &path) {
-                Ok(token) => Ok(token),
-                Err(_) => Err(Exit::Stopped(AskStop::Memory)),
-            };
+            return token_at(alloc, session, &path);
         }
     }
     match text.copy(alloc) {

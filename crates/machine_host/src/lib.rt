@@ -14,6 +14,7 @@ mod guarded;
 mod kept;
 mod requests;
 mod scopes;
+mod stops;
 
 /// What a run waits for: a task's reply, or nothing, where it crashed in that scope.
 #[derive(Drop)]
