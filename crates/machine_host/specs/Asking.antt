@@ -3,6 +3,7 @@ use Rattle.std.specs.Prelude.{◌≡◌, ◌⊎◌, List, [], ◌∷◌, ◌++�
 use Rattle.turk_base.specs.Names.{Path, sub, path_in, Units}
 use Rattle.turk_base.specs.declared.Record.{Record}
 use Rattle.turk_base.specs.State.{next_call}
+use Rattle.turk_base.specs.Values.{task}
 use Rattle.turk_base.specs.Asks.{Question, AnsOf, rec}
 use Rattle.js_tree.specs.World as meaning
 use Rattle.js_tree.specs.World.{World, Fresh, fresh, Rest, noted, kept_answer, diverges, found_kept, found_below, called_by}
@@ -36,6 +37,10 @@ pub record Loses (x : Exit) (old new : Moment) : Type 0 where
 -- A call of the asker was refused, and that is told with the record that was not made; or memory ran out.
 abbrev pub Refuses : Unmade → AskStop → Exit → Moment → Moment → Type 0
 Refuses unmade why x old new = ((x ≡ Stopped why) × (new ≡ record old { stopped = Some why; unmade = unmade })) ⊎ Loses x old new
+
+-- The run waits for the reply to a task, or memory ran out.
+abbrev pub AwaitsTask : Units → Exit → Moment → Moment → Type 0
+AwaitsTask key x old new = ((x ≡ Halted Waits) × (new ≡ record old { waits = old.waits ++ task key ∷ [] })) ⊎ Loses x old new
 
 -- the exit tells of this divergence
 abbrev pub Tells : Exit → meaning.Divergence → Type 0

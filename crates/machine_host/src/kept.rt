@@ -5,7 +5,7 @@ ghost use Rattle.turk_base.specs.Trace.{token_of};
 ghost use Rattle.turk_base.specs.Asks.{posts, replies, draws};
 ghost use Rattle.js_tree.specs.World.{diverges, found_kept, found_below, Found};
 ghost use Rattle.js_tree.specs.World as meaning;
-ghost use Rattle.run_host.specs.Told.{KeptOf, called_in, TellsOf};
+ghost use Rattle.run_host.specs.Told.{KeptOf, called_in, TellsOf, exit_needs};
 ghost use Rattle.machine_host.specs.Asking.{KeptGives, Tells};
 
 use ask_model::{AskStop, Called, Divergence, Kept};
@@ -27,14 +27,16 @@ fn kept_of(alloc: Global, record: &Record) -> Result<Kept, NoMemory>
 
 /// The exit of a divergence.
 fn diverged(path: Path, kept: Kept, called: Called) -> Exit
-    ensures { (found : Found) → KeptOf kept found → Tells result (diverges (path_in path) found (called_in called)) }
+    ensures told { (found : Found) → KeptOf kept found → Tells result (diverges (path_in path) found (called_in called)) }
+    ensures thrown { exit_needs result ≡ 0 }
 {
     Exit::Halted(Halt::Diverges(Divergence { path, kept, called }))
 }
 
 /// The exit where a record stands in the way of a call.
 pub fn diverged_from(alloc: Global, path: Path, record: &Record, called: Called) -> Exit
-    ensures { (result ≡ Exit.Stopped AskStop.Memory) ⊎ Tells result (diverges (path_in path) (found_kept record.now) (called_in called)) }
+    ensures told { (result ≡ Exit.Stopped AskStop.Memory) ⊎ Tells result (diverges (path_in path) (found_kept record.now) (called_in called)) }
+    ensures thrown { exit_needs result ≡ 0 }
 {
     match kept_of(alloc, record) {
         Ok(kept) => diverged(path, kept, called),
@@ -44,7 +46,8 @@ pub fn diverged_from(alloc: Global, path: Path, record: &Record, called: Called)
 
 /// The exit where records stand below a call.
 pub fn diverged_below(path: Path, called: Called) -> Exit
-    ensures { Tells result (diverges (path_in path) found_below (called_in called)) }
+    ensures told { Tells result (diverges (path_in path) found_below (called_in called)) }
+    ensures thrown { exit_needs result ≡ 0 }
 {
     diverged(path, Kept::Below, called)
 }
@@ -68,7 +71,8 @@ pub fn post_kept(
     path: Path,
     text: &Units,
 ) -> Result<Units, Exit>
-    ensures { KeptGives (posts text.now) session.now (path_in path) record.now result }
+    ensures gives { KeptGives (posts text.now) session.now (path_in path) record.now result }
+    ensures thrown { IfErr result (λ x. exit_needs x ≡ 0) }
 {
     if let Record::Post(kept) = record {
         if kept == text {
@@ -89,7 +93,8 @@ pub fn reply_kept(
     path: Path,
     task: &Units,
 ) -> Result<Units, Exit>
-    ensures { KeptGives (replies task.now) session.now (path_in path) record.now result }
+    ensures gives { KeptGives (replies task.now) session.now (path_in path) record.now result }
+    ensures thrown { IfErr result (λ x. exit_needs x ≡ 0) }
 {
     if let Record::Reply(kept, text) = record {
         if kept == task {
@@ -113,7 +118,8 @@ pub fn draw_kept(
     path: Path,
     bound: Whole,
 ) -> Result<Whole, Exit>
-    ensures { KeptGives (draws bound) session.now (path_in path) record.now result }
+    ensures gives { KeptGives (draws bound) session.now (path_in path) record.now result }
+    ensures thrown { IfErr result (λ x. exit_needs x ≡ 0) }
 {
     if let Record::Draw(kept, value) = record {
         if *kept == bound {
@@ -121,4 +127,26 @@ pub fn draw_kept(
         }
     }
     Err(diverged_from(alloc, path, record, Called::Random(bound)))
+}
+
+/// The exit of a post where records stand below its path.
+pub fn post_below(alloc: Global, path: Path, text: &Units) -> Exit
+    ensures told { (result ≡ Exit.Stopped AskStop.Memory) ⊎ Tells result (diverges (path_in path) found_below (meaning.called_post text.now)) }
+    ensures thrown { exit_needs result ≡ 0 }
+{
+    match text.copy(alloc) {
+        Ok(text) => diverged_below(path, Called::Post(text)),
+        Err(_) => Exit::Stopped(AskStop::Memory),
+    }
+}
+
+/// The exit where a reply is asked and records stand below its path.
+pub fn reply_below(alloc: Global, path: Path, task: &Units) -> Exit
+    ensures told { (result ≡ Exit.Stopped AskStop.Memory) ⊎ Tells result (diverges (path_in path) found_below (meaning.called_reply task.now)) }
+    ensures thrown { exit_needs result ≡ 0 }
+{
+    match task.copy(alloc) {
+        Ok(task) => diverged_below(path, Called::Reply(task)),
+        Err(_) => Exit::Stopped(AskStop::Memory),
+    }
 }
