@@ -1,3 +1,4 @@
 pub mod Called
+pub mod Ended
 pub mod Gives
 pub mod Purse

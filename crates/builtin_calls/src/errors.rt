@@ -21,7 +21,7 @@ fn message_key(alloc: Global) -> Result<Units, NoMemory>
 }
 
 /// A plain cell of a prototype, with a message.
-fn error_cell<H: Heap>(
+pub fn error_cell<H: Heap>(
     alloc: Global,
     heap: &mut H,
     prototype: u32,

@@ -2,10 +2,11 @@
 #![tactic(auto)]
 
 use turk_base::{NoMemory, Units};
-use value_cells::OpStop;
+use value_cells::{OpStop, Value};
 
 mod arrays;
 mod calls;
+mod ends;
 mod errors;
 mod steps;
 #[cfg(test)]
@@ -13,6 +14,7 @@ mod tests;
 mod texts;
 
 pub use calls::call;
+pub use ends::call_made;
 pub use steps::text_of;
 
 /// Why a built-in call ended the run or throws: an error with its kind, 0 for TypeError and 1 for
@@ -26,6 +28,13 @@ pub enum CallStop {
     TooLong,
     Spent,
     Memory,
+}
+
+/// How a built-in call ended: with a value, or with the number of the cell of an error, which is thrown.
+#[derive(Drop)]
+pub enum CallEnd {
+    Value(Value),
+    Thrown(u32),
 }
 
 impl From<OpStop> for CallStop {

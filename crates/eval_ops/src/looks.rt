@@ -17,7 +17,8 @@ impl Machine {
 
     /// The path of the scope that runs.
     pub fn path(&self) -> &Path
-        ensures { path_in result.now ≡ (seen_of self.now).scope.path }
+        ensures place { result.now ≡ self.now.heap.place.path }
+        ensures scope { path_in result.now ≡ (seen_of self.now).scope.path }
     {
         self.heap.path()
     }

@@ -1,3 +1,4 @@
+pub mod Asking
 pub mod Exits
 pub mod Guards
 pub mod Moments

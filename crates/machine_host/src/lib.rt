@@ -8,10 +8,14 @@ use guarded::Guarded;
 use std::alloc::Global;
 use turk_base::{Data, Name, Path, Units, Whole};
 
+mod asks;
 mod exits;
 mod guarded;
+mod kept;
 mod parts;
 mod requests;
+mod scopes;
+mod stops;
 
 pub use parts::Parts;
 
