@@ -238,9 +238,9 @@ module _ (g : Naming → Prog) (m : Moment) (t : Seen) (stays : Stays m.heap t) 
   called_run (Err heap.Spent) d gone = spent_run (program_came g m) t stays gone d
   called_run (Err heap.Memory) d gone = lost_run (program_came g m) t stays
 
-pub built_in_run : {X : Type 0} (g : Naming → Prog) (seen : X → Asked) (run : AskedRun X) (n : Run) (r : Result CallEnd OpStop) (x : Result Value Exit) → x ≡ value_at r → does.Runs g (λ nu. told (end_in nu) r) (guarded run.guarded.machine) (guarded n)
-    → Runs g (λ nu. told_value nu x) (moment_of seen run) (with_heap (moment_of seen run) (seen_of n))
+pub built_in_run : {X : Type 0} (g : Naming → Prog) (seen : X → Asked) (words : X → ℕ → ℕ) (run : AskedRun X) (n : Run) (r : Result CallEnd OpStop) (x : Result Value Exit) → x ≡ value_at r → does.Runs g (λ nu. told (end_in nu) r) (guarded run.guarded.machine) (guarded n)
+    → Runs g (λ nu. told_value nu x) (moment_of seen words run) (with_heap (moment_of seen words run) (seen_of n))
 built_in_run g seen run n r x e d =
-    let old = moment_of seen run in
+    let old = moment_of seen words run in
     subst (λ x. Runs g (λ nu. told_value nu x) old (with_heap old (seen_of n))) (sym e)
     (called_run g old (seen_of n) (stays_of run.guarded.machine n d.stays) r d.ran (gone_of run.guarded.machine n d.stays))

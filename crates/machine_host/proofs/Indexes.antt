@@ -27,8 +27,8 @@ on_more p (j ∷ l) i = on_more (sub j p) l i
 pub path_more : (l : List ℕ) (i : ℕ) → path_in (l ++ i ∷ []) ≡ sub i (path_in l)
 path_more l i = on_more root l i
 
-pub indexed : {X : Type 0} (seen : X → Asked) (run : AskedRun X) (m : Run) (p : List ℕ) → p ≡ run.guarded.machine.heap.place.path ++ run.guarded.machine.heap.place.calls ∷ [] → Changes (λ nu σ. next_call σ) (seen_of run.guarded.machine) (seen_of m)
-    → Indexed p (moment_of seen run) (with_heap (moment_of seen run) (seen_of m))
+pub indexed : {X : Type 0} (seen : X → Asked) (words : X → ℕ → ℕ) (run : AskedRun X) (m : Run) (p : List ℕ) → p ≡ run.guarded.machine.heap.place.path ++ run.guarded.machine.heap.place.calls ∷ [] → Changes (λ nu σ. next_call σ) (seen_of run.guarded.machine) (seen_of m)
+    → Indexed p (moment_of seen words run) (with_heap (moment_of seen words run) (seen_of m))
 indexed seen run m p e c = record {
   names = c.names;
   scope = c.scope;

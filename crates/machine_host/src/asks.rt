@@ -36,13 +36,13 @@ impl<A: Asker> AskedRun<A> {
     /// for an index more.
     fn take_index(&mut self) -> Result<Path, Exit>
         requires sound { IsSound A.is_sound A.seen self.old }
-        ensures taken { IfOk result (λ p. Indexed p (moment_of A.seen self.old) (moment_of A.seen self.new)) }
+        ensures taken { IfOk result (λ p. Indexed p (moment_of A.seen A.words self.old) (moment_of A.seen A.words self.new)) }
         ensures some { IfOk result (λ p. 0 < length p) }
         ensures short { IfOk result (λ p. length p ≤ 800) }
         ensures going { IfOk result (λ p. (A.seen self.new.asker).closed ≡ false) }
         ensures ready { IfOk result (λ p. IsReady p self.new.guarded.machine.heap.place.path self.new.guarded.machine.heap.place.calls (names_in self.new.guarded.machine.heap.cells.now)) }
-        ensures lost { IfErr result (λ x. Loses x (moment_of A.seen self.old) (moment_of A.seen self.new)) }
-        ensures more { cells (moment_of A.seen self.old) ≤ cells (moment_of A.seen self.new) }
+        ensures lost { IfErr result (λ x. Loses x (moment_of A.seen A.words self.old) (moment_of A.seen A.words self.new)) }
+        ensures more { cells (moment_of A.seen A.words self.old) ≤ cells (moment_of A.seen A.words self.new) }
         ensures asker { self.new.asker ≡ self.old.asker }
         ensures notes { self.new.notes ≡ self.old.notes }
         ensures sound { IsSound A.is_sound A.seen self.new }
@@ -66,9 +66,9 @@ impl<A: Asker> AskedRun<A> {
         requires sound { A.is_sound self.old.asker }
         requires good { IsGood (heap_of self.old) }
         requires entered { AreOpen self.old.entered.items (heap_of self.old).outer }
-        ensures told { Refuses (unmade_in unmade) stop result (moment_of A.seen self.old) (moment_of A.seen self.new) }
+        ensures told { Refuses (unmade_in unmade) stop result (moment_of A.seen A.words self.old) (moment_of A.seen A.words self.new) }
         ensures thrown { exit_needs result ≡ 0 }
-        ensures more { cells (moment_of A.seen self.old) ≤ cells (moment_of A.seen self.new) }
+        ensures more { cells (moment_of A.seen A.words self.old) ≤ cells (moment_of A.seen A.words self.new) }
         ensures sound { IsSound A.is_sound A.seen self.new }
     {
         self.closed = true;
@@ -89,8 +89,8 @@ impl<A: Asker> AskedRun<A> {
         requires new { at (known_to (A.seen self.old.asker)) path ≡ None }
         requires none_below { below (known_to (A.seen self.old.asker)) path ≡ false }
         requires path { IsCallPath path }
-        ensures did { Asks (posts text.now) (path_in path) (moment_of A.seen self.old) (moment_of A.seen self.new) result }
-        ensures more { cells (moment_of A.seen self.old) ≤ cells (moment_of A.seen self.new) }
+        ensures did { Asks (posts text.now) (path_in path) (moment_of A.seen A.words self.old) (moment_of A.seen A.words self.new) result }
+        ensures more { cells (moment_of A.seen A.words self.old) ≤ cells (moment_of A.seen A.words self.new) }
         ensures thrown { IfErr result (λ x. exit_needs x ≡ 0) }
         ensures sound { IsSound A.is_sound A.seen self.new }
     {
@@ -119,8 +119,8 @@ impl<A: Asker> AskedRun<A> {
         requires new { at (known_to (A.seen self.old.asker)) path ≡ None }
         requires none_below { below (known_to (A.seen self.old.asker)) path ≡ false }
         requires path { IsCallPath path }
-        ensures did { Asks (replies task.now) (path_in path) (moment_of A.seen self.old) (moment_of A.seen self.new) result }
-        ensures more { cells (moment_of A.seen self.old) ≤ cells (moment_of A.seen self.new) }
+        ensures did { Asks (replies task.now) (path_in path) (moment_of A.seen A.words self.old) (moment_of A.seen A.words self.new) result }
+        ensures more { cells (moment_of A.seen A.words self.old) ≤ cells (moment_of A.seen A.words self.new) }
         ensures thrown { IfErr result (λ x. exit_needs x ≡ 0) }
         ensures sound { IsSound A.is_sound A.seen self.new }
     {
@@ -140,9 +140,9 @@ impl<A: Asker> AskedRun<A> {
     /// Waits for the reply to a task.
     fn wait_for(&mut self, task: Units) -> Exit
         requires sound { IsSound A.is_sound A.seen self.old }
-        ensures told { AwaitsTask task result (moment_of A.seen self.old) (moment_of A.seen self.new) }
+        ensures told { AwaitsTask task result (moment_of A.seen A.words self.old) (moment_of A.seen A.words self.new) }
         ensures thrown { exit_needs result ≡ 0 }
-        ensures more { cells (moment_of A.seen self.old) ≤ cells (moment_of A.seen self.new) }
+        ensures more { cells (moment_of A.seen A.words self.old) ≤ cells (moment_of A.seen A.words self.new) }
         ensures sound { IsSound A.is_sound A.seen self.new }
     {
         match note(&mut self.notes.waits, Wait::Task(task)) {
@@ -159,8 +159,8 @@ impl<A: Asker> AskedRun<A> {
         requires none_below { below (known_to (A.seen self.old.asker)) path ≡ false }
         requires path { IsCallPath path }
         requires bound { pos 1 ≤ℤ bound }
-        ensures did { Asks (draws bound) (path_in path) (moment_of A.seen self.old) (moment_of A.seen self.new) result }
-        ensures more { cells (moment_of A.seen self.old) ≤ cells (moment_of A.seen self.new) }
+        ensures did { Asks (draws bound) (path_in path) (moment_of A.seen A.words self.old) (moment_of A.seen A.words self.new) result }
+        ensures more { cells (moment_of A.seen A.words self.old) ≤ cells (moment_of A.seen A.words self.new) }
         ensures thrown { IfErr result (λ x. exit_needs x ≡ 0) }
         ensures sound { IsSound A.is_sound A.seen self.new }
     {
@@ -173,8 +173,8 @@ impl<A: Asker> AskedRun<A> {
     /// Posts a task with this text, unless its record is there; the answer is the task's token.
     pub fn post(&mut self, text: &Units) -> Result<Units, Exit>
         requires sound { IsSound A.is_sound A.seen self.old }
-        ensures did { Takes (λ nu. ask (Post text.now)) (λ nu t. t) result (moment_of A.seen self.old) (moment_of A.seen self.new) }
-        ensures more { cells (moment_of A.seen self.old) ≤ cells (moment_of A.seen self.new) }
+        ensures did { Takes (λ nu. ask (Post text.now)) (λ nu t. t) result (moment_of A.seen A.words self.old) (moment_of A.seen A.words self.new) }
+        ensures more { cells (moment_of A.seen A.words self.old) ≤ cells (moment_of A.seen A.words self.new) }
         ensures thrown { IfErr result (λ x. exit_needs x ≡ 0) }
         ensures sound { IsSound A.is_sound A.seen self.new }
     {
@@ -192,8 +192,8 @@ impl<A: Asker> AskedRun<A> {
     /// The reply to a task.
     pub fn reply(&mut self, task: &Units) -> Result<Units, Exit>
         requires sound { IsSound A.is_sound A.seen self.old }
-        ensures did { Takes (λ nu. ask (Reply task.now)) (λ nu t. t) result (moment_of A.seen self.old) (moment_of A.seen self.new) }
-        ensures more { cells (moment_of A.seen self.old) ≤ cells (moment_of A.seen self.new) }
+        ensures did { Takes (λ nu. ask (Reply task.now)) (λ nu t. t) result (moment_of A.seen A.words self.old) (moment_of A.seen A.words self.new) }
+        ensures more { cells (moment_of A.seen A.words self.old) ≤ cells (moment_of A.seen A.words self.new) }
         ensures thrown { IfErr result (λ x. exit_needs x ≡ 0) }
         ensures sound { IsSound A.is_sound A.seen self.new }
     {
@@ -212,8 +212,8 @@ impl<A: Asker> AskedRun<A> {
     pub fn draw(&mut self, bound: Whole) -> Result<Whole, Exit>
         requires sound { IsSound A.is_sound A.seen self.old }
         requires bound { pos 1 ≤ℤ bound }
-        ensures did { Takes (λ nu. ask (Draw bound)) (λ nu n. n) result (moment_of A.seen self.old) (moment_of A.seen self.new) }
-        ensures more { cells (moment_of A.seen self.old) ≤ cells (moment_of A.seen self.new) }
+        ensures did { Takes (λ nu. ask (Draw bound)) (λ nu n. n) result (moment_of A.seen A.words self.old) (moment_of A.seen A.words self.new) }
+        ensures more { cells (moment_of A.seen A.words self.old) ≤ cells (moment_of A.seen A.words self.new) }
         ensures thrown { IfErr result (λ x. exit_needs x ≡ 0) }
         ensures sound { IsSound A.is_sound A.seen self.new }
     {

@@ -33,12 +33,12 @@ impl<A: Asker> AskedRun<A> {
     /// A built-in call by its number, with `this` and its arguments. What it throws was made.
     pub fn built_in(&mut self, which: u8, this: &Value, arguments: &[Value]) -> Result<Value, Exit>
         requires sound { IsSound A.is_sound A.seen self.old }
-        requires this { needs this.now ≤ cells (moment_of A.seen self.old) }
-        requires arguments { all_needs arguments.now ≤ cells (moment_of A.seen self.old) }
-        ensures did { Runs (λ nu. call_built_in which (val_in nu this.now) (map (val_in nu) arguments.now)) (λ nu. told_value nu result) (moment_of A.seen self.old) (moment_of A.seen self.new) }
-        ensures more { cells (moment_of A.seen self.old) ≤ cells (moment_of A.seen self.new) }
-        ensures exists { IfOk result (λ v. needs v ≤ cells (moment_of A.seen self.new)) }
-        ensures thrown { IfErr result (λ x. exit_needs x ≤ cells (moment_of A.seen self.new)) }
+        requires this { needs this.now ≤ cells (moment_of A.seen A.words self.old) }
+        requires arguments { all_needs arguments.now ≤ cells (moment_of A.seen A.words self.old) }
+        ensures did { Runs (λ nu. call_built_in which (val_in nu this.now) (map (val_in nu) arguments.now)) (λ nu. told_value nu result) (moment_of A.seen A.words self.old) (moment_of A.seen A.words self.new) }
+        ensures more { cells (moment_of A.seen A.words self.old) ≤ cells (moment_of A.seen A.words self.new) }
+        ensures exists { IfOk result (λ v. needs v ≤ cells (moment_of A.seen A.words self.new)) }
+        ensures thrown { IfErr result (λ x. exit_needs x ≤ cells (moment_of A.seen A.words self.new)) }
         ensures sound { IsSound A.is_sound A.seen self.new }
     {
         let ended = call_made(self.alloc, &mut self.guarded, which, this, arguments);
@@ -49,7 +49,7 @@ impl<A: Asker> AskedRun<A> {
     /// Refused in a once body.
     pub fn may_fork(&self) -> Result<(), Exit>
         requires sound { IsSound A.is_sound A.seen self.now }
-        ensures did { Takes (λ nu. ask MayFork) (λ nu u. u) result (moment_of A.seen self.now) (moment_of A.seen self.now) }
+        ensures did { Takes (λ nu. ask MayFork) (λ nu u. u) result (moment_of A.seen A.words self.now) (moment_of A.seen A.words self.now) }
         ensures thrown { IfErr result (λ x. exit_needs x ≡ 0) }
     {
         if self.guarded.machine.in_once() {
@@ -61,9 +61,9 @@ impl<A: Asker> AskedRun<A> {
     /// Joins the branches of the scope; the answer is an array of their values.
     pub fn join(&mut self) -> Result<Value, Exit>
         requires sound { IsSound A.is_sound A.seen self.old }
-        ensures did { Takes (λ nu. ask (Join true)) val_in result (moment_of A.seen self.old) (moment_of A.seen self.new) }
-        ensures more { cells (moment_of A.seen self.old) ≤ cells (moment_of A.seen self.new) }
-        ensures exists { IfOk result (λ v. needs v ≤ cells (moment_of A.seen self.new)) }
+        ensures did { Takes (λ nu. ask (Join true)) val_in result (moment_of A.seen A.words self.old) (moment_of A.seen A.words self.new) }
+        ensures more { cells (moment_of A.seen A.words self.old) ≤ cells (moment_of A.seen A.words self.new) }
+        ensures exists { IfOk result (λ v. needs v ≤ cells (moment_of A.seen A.words self.new)) }
         ensures thrown { IfErr result (λ x. exit_needs x ≡ 0) }
         ensures sound { IsSound A.is_sound A.seen self.new }
     {
@@ -82,8 +82,8 @@ impl<A: Asker> AskedRun<A> {
     /// The run waits here; the wait is noted.
     pub fn crash(&mut self) -> Exit
         requires sound { IsSound A.is_sound A.seen self.old }
-        ensures did { Leaves (λ nu. ask Crash) result (moment_of A.seen self.old) (moment_of A.seen self.new) }
-        ensures more { cells (moment_of A.seen self.old) ≤ cells (moment_of A.seen self.new) }
+        ensures did { Leaves (λ nu. ask Crash) result (moment_of A.seen A.words self.old) (moment_of A.seen A.words self.new) }
+        ensures more { cells (moment_of A.seen A.words self.old) ≤ cells (moment_of A.seen A.words self.new) }
         ensures thrown { exit_needs result ≡ 0 }
         ensures sound { IsSound A.is_sound A.seen self.new }
     {

@@ -16,7 +16,7 @@ returns-in-Err-clause-did g c = lost_leaves _ _ (record { session = refl; trace 
 
 pub returns-in-Ok-note-clause-did : goal.returns-in-Ok-note-clause-did
 returns-in-Ok-note-clause-did g c =
-    let m = moment_of g.A.Asker.seen c.args.self.now in
+    let m = moment_of g.A.Asker.seen g.A.Asker.words c.args.self.now in
     crashes m _ (ap (λ w. record m { waits = w })
     (ap (map wait_in) c.in-Ok-note.ensures.ok ∙ more_waits c.args.self.now.notes.waits.items (Crashed c.in-Ok.scope)
     ∙ ap (λ p. m.waits ++ crashed p ∷ []) (ap path_in c.in-Ok.ensures ∙ c.path.ensures.scope)))

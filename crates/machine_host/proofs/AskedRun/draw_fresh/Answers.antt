@@ -15,6 +15,6 @@ pub returns-in-Err-clause-did : goal.returns-in-Err-clause-did
 returns-in-Err-clause-did g c =
     let h = c.args.self.now in
     let a = c.in-Err.ensures.drawn.adds in
-    refused_asks (draws c.args.bound) (path_in c.args.path) (moment_of g.A.Asker.seen h) _ (moment_of g.A.Asker.seen c.refuse.new.self) c.in-Err.stop c.refuse.result
+    refused_asks (draws c.args.bound) (path_in c.args.path) (moment_of g.A.Asker.seen g.A.Asker.words h) _ (moment_of g.A.Asker.seen g.A.Asker.words c.refuse.new.self) c.in-Err.stop c.refuse.result
     (as_before (heap_of h) (g.A.Asker.seen h.asker) (g.A.Asker.seen c.draw.new.self) (notes_of h.notes) a.stays.trace a.stays.replies a.made) c.refuse.ensures.told
     (λ E su e. refl)

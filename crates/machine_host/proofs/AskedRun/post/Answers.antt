@@ -19,4 +19,4 @@ returns-in-Below-clause-did g c = from_below g.A.Asker.seen c.args.self.now c.ta
 
 pub returns-in-Nothing-clause-did : goal.returns-in-Nothing-clause-did
 returns-in-Nothing-clause-did g c = from_nothing g.A.Asker.seen c.args.self.now c.take_index.new.self c.known.new.self (posts c.args.text.now) (ask (Post c.args.text.now)) (asks_post c.args.text.now) c.in_ok-path.path c.in_ok-path.ensures.taken c.in_ok-path.ensures.asker c.in_ok-path.ensures.notes c.in-Nothing.ensures.asked
-    c.in-Nothing.ensures.known (moment_of g.A.Asker.seen c.post_fresh.new.self) c.post_fresh.result c.post_fresh.ensures.did
+    c.in-Nothing.ensures.known (moment_of g.A.Asker.seen g.A.Asker.words c.post_fresh.new.self) c.post_fresh.result c.post_fresh.ensures.did

@@ -29,7 +29,7 @@ pub returns-in-Err-clause-did : goal.returns-in-Err-clause-did
 returns-in-Err-clause-did g c =
     let h = c.args.self.now in
     let a = c.in-Err.ensures.adds in
-    refused_asks (posts c.args.text.now) (path_in c.args.path) (moment_of g.A.Asker.seen h) _ (moment_of g.A.Asker.seen c.refuse.new.self) c.in-Err.stop c.refuse.result
+    refused_asks (posts c.args.text.now) (path_in c.args.path) (moment_of g.A.Asker.seen g.A.Asker.words h) _ (moment_of g.A.Asker.seen g.A.Asker.words c.refuse.new.self) c.in-Err.stop c.refuse.result
     (as_before (heap_of h) (g.A.Asker.seen h.asker) (g.A.Asker.seen c.post.new.self) (notes_of h.notes) a.stays.trace a.stays.replies a.made)
-    (subst (λ t. Refuses (asking (path_in c.args.path) (posts t)) c.in-Err.stop c.refuse.result (moment_at (heap_of h) (g.A.Asker.seen c.post.new.self) (notes_of h.notes)) (moment_of g.A.Asker.seen c.refuse.new.self)) c.in-Ok.ensures c.refuse.ensures.told)
-    (λ E su. post_lacks c.args.text.now (path_in c.args.path) (draws_in (moment_of g.A.Asker.seen h).made) E)
+    (subst (λ t. Refuses (asking (path_in c.args.path) (posts t)) c.in-Err.stop c.refuse.result (moment_at (heap_of h) (g.A.Asker.seen c.post.new.self) (notes_of h.notes)) (moment_of g.A.Asker.seen g.A.Asker.words c.refuse.new.self)) c.in-Ok.ensures c.refuse.ensures.told)
+    (λ E su. post_lacks c.args.text.now (path_in c.args.path) (draws_in (moment_of g.A.Asker.seen g.A.Asker.words h).made) E)
