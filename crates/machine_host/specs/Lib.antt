@@ -1,7 +1,0 @@
-pub mod Asking
-pub mod Exits
-pub mod Guards
-pub mod Moments
-pub mod Runs
-pub mod Sound
-pub mod Starts
