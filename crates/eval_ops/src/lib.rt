@@ -15,8 +15,6 @@ mod heap;
 mod names;
 mod output;
 mod scopes;
-#[cfg(test)]
-mod tests;
 mod verdicts;
 
 /// A scope around the one that runs: whether it is in a once body, the values of its branches, and
