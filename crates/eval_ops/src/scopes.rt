@@ -50,6 +50,7 @@ impl Machine {
         ensures ok { OnOk result (Enters (path_in path.now) branch (seen_of self.old) (seen_of self.new)) }
         ensures entered { IfOk result (λ e. e ≡ length (seen_of self.new).outer) }
         ensures err { IfErr result (λ e. e ≡ OpStop.Memory) }
+        ensures same { OnErr result (self.new ≡ self.old) }
     {
         self.heap.known();
         if self.outer.reserve(1).is_err() {

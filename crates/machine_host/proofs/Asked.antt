@@ -44,24 +44,24 @@ asks_draw bound = record { runs = λ c go k σ w. refl }
 pub loses_leaves : {A : Type 0} {f : Naming → Step A} {m n : Moment} (e : Exit) → Loses e m n → Leaves f e m n
 loses_leaves {A} {f} {m} {n} e l = subst (λ e. Leaves f e m n) (sym l.is) (lost_leaves m n l.same l.made)
 
-module _ {X : Type 0} (seen : X → Asked_of) (old mid : AskedRun X) (known : X) (q : Question) (f : Step (AnsOf q)) (is : Asks f (steps.ask q give)) (p : List ℕ) (x : Indexed p (moment_of seen old) (moment_of seen mid))
-    (asker : mid.asker ≡ old.asker) (notes : mid.notes ≡ old.notes) (asked : seen known ≡ asked_at (seen mid.asker) p) where
+module _ {X : Type 0} (seen : X → Asked_of) (words : X → ℕ → ℕ) (old mid : AskedRun X) (known : X) (q : Question) (f : Step (AnsOf q)) (is : Asks f (steps.ask q give)) (p : List ℕ) (x : Indexed p (moment_of seen words old) (moment_of seen words mid))
+    (asker : mid.asker ≡ old.asker) (notes : mid.notes ≡ old.notes) (asked : seen known ≡ asked_at (seen mid.asker) p) (drawn : (k : ℕ) → words known k ≡ words mid.asker k) where
   abbrev now : Moment
-  now = moment_at (heap_of mid) (seen known) (notes_of mid.notes)
+  now = moment_at (heap_of mid) (seen known) (words known) (notes_of mid.notes)
 
-  now_is : now ≡ record (moment_of seen old) { heap = heap_of mid }
-  now_is = ap (λ a. moment_at (heap_of mid) a (notes_of mid.notes)) asked ∙ x.rest
+  now_is : now ≡ record (moment_of seen words old) { heap = heap_of mid }
+  now_is = (λ i. moment_at (heap_of mid) (asked i) (λ k. drawn k i) (notes_of mid.notes)) ∙ x.rest
 
-  pub from_kept : (r : Record) → Some r ≡ record_in (known_to (seen known)) (seen known).asked → (y : Result (AnsOf q) Exit) → KeptGives q mid.notes.session (path_in p) r y → Takes (λ nu. f) (λ nu a. a) y (moment_of seen old) now
-  from_kept r here y h = kept_takes q f is (seen mid.asker) (moment_of seen old) (moment_of seen mid) (λ i. records_of (seen (sym asker i)).trace) (λ i. records_of (seen (sym asker i)).made) p x now now_is r
+  pub from_kept : (r : Record) → Some r ≡ record_in (known_to (seen known)) (seen known).asked → (y : Result (AnsOf q) Exit) → KeptGives q mid.notes.session (path_in p) r y → Takes (λ nu. f) (λ nu a. a) y (moment_of seen words old) now
+  from_kept r here y h = kept_takes q f is (seen mid.asker) (moment_of seen words old) (moment_of seen words mid) (λ i. records_of (seen (sym asker i)).trace) (λ i. records_of (seen (sym asker i)).made) p x now now_is r
       (sym (here ∙ ap (λ s. record_in (known_to s) s.asked) asked)) y (subst (λ n. KeptGives q n.session (path_in p) r y) notes h)
 
-  pub from_below : Below ≡ known_at (known_to (seen mid.asker)) p → (y : Exit) → (y ≡ Stopped Memory) ⊎ Tells y (diverges (path_in p) found_below (called_by q)) → Leaves (λ nu. f) y (moment_of seen old) now
+  pub from_below : Below ≡ known_at (known_to (seen mid.asker)) p → (y : Exit) → (y ≡ Stopped Memory) ⊎ Tells y (diverges (path_in p) found_below (called_by q)) → Leaves (λ nu. f) y (moment_of seen words old) now
   from_below e y t =
       let b = below_is (known_to (seen mid.asker)) p e in
-      below_takes q f is (seen mid.asker) (moment_of seen old) (moment_of seen mid) (λ i. records_of (seen (sym asker i)).trace) (λ i. records_of (seen (sym asker i)).made) p x (λ nu (a : AnsOf q). a) now now_is b.0 b.1 y t
+      below_takes q f is (seen mid.asker) (moment_of seen words old) (moment_of seen words mid) (λ i. records_of (seen (sym asker i)).trace) (λ i. records_of (seen (sym asker i)).made) p x (λ nu (a : AnsOf q). a) now now_is b.0 b.1 y t
 
-  pub from_nothing : Nothing ≡ known_at (known_to (seen mid.asker)) p → (l : Moment) (y : Result (AnsOf q) Exit) → spec.Asks q (path_in p) now l y → Takes (λ nu. f) (λ nu a. a) y (moment_of seen old) l
+  pub from_nothing : Nothing ≡ known_at (known_to (seen mid.asker)) p → (l : Moment) (y : Result (AnsOf q) Exit) → spec.Asks q (path_in p) now l y → Takes (λ nu. f) (λ nu a. a) y (moment_of seen words old) l
   from_nothing e l y a =
       let b = nothing_is (known_to (seen mid.asker)) p e in
-      ask_takes q f is (seen mid.asker) (moment_of seen old) (moment_of seen mid) (λ i. records_of (seen (sym asker i)).trace) (λ i. records_of (seen (sym asker i)).made) p x l b.0 b.1 y (subst (λ m. spec.Asks q (path_in p) m l y) now_is a)
+      ask_takes q f is (seen mid.asker) (moment_of seen words old) (moment_of seen words mid) (λ i. records_of (seen (sym asker i)).trace) (λ i. records_of (seen (sym asker i)).made) p x l b.0 b.1 y (subst (λ m. spec.Asks q (path_in p) m l y) now_is a)

@@ -35,7 +35,7 @@ use Rattle.run_host.specs.declared.Exit.{Exit}
 use Rattle.run_host.specs.declared.Exit.TheVariants as exit
 use Rattle.run_host.specs.declared.Halt.{Halt}
 use Rattle.run_host.specs.declared.Halt.TheVariants as halt
-use Rattle.run_host.specs.Moment.{Moment, cells, rest_of, draws_in, drawn_by, AllDealt, Deals, Suits, Clear, place, Same, Within}
+use Rattle.run_host.specs.Moment.{Moment, cells, rest_of, draws_in, drawn_by, AllDealt, Deals, Moves, Suits, Clear, place, Same, Within}
 use Rattle.run_host.specs.Moment as moment
 use Rattle.run_host.specs.Told as shown
 use Rattle.run_host.specs.Told.{Told, next_of, IsShown, told_exit}
@@ -43,10 +43,10 @@ use Rattle.run_host.specs.Ends.{Like, Comes, says, halts, fails}
 use Rattle.run_host.specs.Did.{Runs}
 use Rattle.run_host.specs.Steps.{Step, Leaves, Gives, Takes}
 use Rattle.run_host.proofs.Comes.{add_add, halted_then}
-use Rattle.run_host.proofs.Moments.{fits_before, same_trans, within_refl, within_trans, suits_before, place_after}
+use Rattle.run_host.proofs.Moments.{moves_twice, dealt_twice, fits_before, same_trans, within_refl, within_trans, suits_before, place_after}
 use Rattle.machine_host.specs.Asking as asking
 use Rattle.machine_host.specs.Asking.{Indexed, Loses, Tells, KeptGives}
-use Rattle.machine_host.proofs.Turns.{Asks}
+use Rattle.machine_host.proofs.Turns.{Asks, moves_same}
 use Rattle.machine_host.proofs.Halting.{Stopped, halts_leave, lost_leaves}
 use native.Mathlib.Nat.{le_refl}
 
@@ -59,16 +59,18 @@ comes_after l b (halts h) = halts (halted_then l (λ r s. record { holds = λ k.
 comes_after {m = m} {next = next} l b (fails {why = why} h) = fails (record { holds = λ k. subst (Follows (l ++ m) (next why)) (sym (b k)) (follows_add l m (next why) _ (h.holds k)) })
 
 module _ {A : Type 0} (f : Naming → Step A) (g : Naming → Small A) (asks : (nu : Naming) → Asks (f nu) (g nu)) where
-  pub gives_at : (m n : Moment) (a : Naming → A) (added : List Rec) → Same m n → Within m n → n.made ≡ m.made ++ added
+  pub gives_at : (m n : Moment) (a : Naming → A) (added : List Rec) → Same m n → Within m n → n.made ≡ m.made ++ added → AllDealt (meaning.words m.words) 0 added → Moves m n added
       → ((nu : Naming) → Fits nu n.heap.names → Clear nu m → Clear nu n)
       → ((nu : Naming) → Fits nu n.heap.names → (E : World) → Suits E n → Clear nu m → (k : A → St → Rest → Res) →
       run_steps (g nu) E m.trace m.heap.scope.path m.heap.scope.branch m.heap.scope.body k (m.heap.first nu) (rest_of m) ≡ add added (k (a nu) (n.heap.first nu) (rest_of n)))
       → Gives f a m n
-  gives_at m n a added same within made clear d = record { goes = λ go. record { goes = λ said last r. record {
+  gives_at m n a added same within made dealt moves clear d = record { goes = λ go. record { goes = λ said last r. record {
     same = same_trans same r.same;
     within = λ nu z. within_trans r.same within (r.within nu z);
     added = added ++ r.added;
     made = r.made ∙ ap (λ l. l ++ r.added) made ∙ append_assoc m.made added r.added;
+    dealt = dealt_twice added r.added dealt moves r.dealt;
+    moved = λ nu z. moves_twice added r.added moves (r.moved nu z);
     shown = r.shown;
     ran = λ nu fits E s bound l c.
         let fb = fits_before r.same.grows fits in
@@ -82,14 +84,16 @@ module _ {A : Type 0} (f : Naming → Step A) (g : Naming → Small A) (asks : (
 
 -- a step that ends the run, where the world and what was made are known of
 module _ {A : Type 0} (f : Naming → Step A) (g : Naming → Small A) (asks : (nu : Naming) → Asks (f nu) (g nu)) where
-  pub halts_at : (m n : Moment) (h : Halt) (out : Out) → ((nu : Naming) → shown.IsOut h out) → Same m n → Within m n → n.made ≡ m.made
+  pub halts_at : (m n : Moment) (h : Halt) (out : Out) → ((nu : Naming) → shown.IsOut h out) → Same m n → Within m n → n.made ≡ m.made → n.words ≡ m.words
       → ((nu : Naming) → Fits nu n.heap.names → (E : World) → Suits E n → Clear nu m → Stopped (g nu) m E out (n.heap.first nu) (rest_of n) (m.heap.first nu)) → Leaves f (exit.Halted h) m n
-  halts_at m n h out is same within made d = record {
+  halts_at m n h out is same within made drawn d = record {
     ends = λ go. record {
       same = same;
       within = λ nu z. within;
       added = [];
       made = made ∙ sym (append-nil m.made);
+      dealt = tt;
+      moved = λ nu z. moves_same drawn;
       shown = λ nu. tt;
       ran = λ nu fits E s bound l c.
           let q = d nu fits E s c in
@@ -114,6 +118,8 @@ module _ {A : Type 0} (f : Naming → Step A) (g : Naming → Small A) (asks : (
       within = λ nu z. absurd z;
       added = [];
       made = made ∙ sym (append-nil m.made);
+      dealt = tt;
+      moved = λ nu z. absurd z;
       shown = is;
       ran = λ nu fits E s bound l c. fails (record {
         holds = λ k. subst (Follows [] (next_of E (draws_in n.made) n.unmade why)) (sym ((asks nu).runs (place E bound m) (go nu) k (m.heap.first nu) (rest_of m)))
@@ -222,19 +228,21 @@ module _ (q : Question) (f : Step (AnsOf q)) (is : Asks f (steps.ask q give)) (s
         | inr o ↦ (let e = one_index b.2 (subst (λ z. Under (at_call nu) z) (sym (here r o)) self) in let h = b.1 in omega (arith, e, h))
       ]
 
-  abbrev with_record : Record → Moment
-  with_record what = record m { heap = n.heap; made = m.made ++ rec (path_in p) what ∷ [] }
+  abbrev with_record : Record → (ℕ → ℕ) → Moment
+  with_record what v = record m { heap = n.heap; made = m.made ++ rec (path_in p) what ∷ []; words = v }
 
-  ask_answered : told.at (known_to s) p ≡ None → told.below (known_to s) p ≡ false → (a : Fresh q) → ((E : World) → Suits E (with_record a.what) → fresh q E (draws_in m.made) (path_in p) ≡ Some a) → Gives (λ nu. f) (λ nu. a.answer) m (with_record a.what)
-  ask_answered unfound unbelow a d = gives_at (λ nu. f) (λ nu. steps.ask q give) (λ nu. is) m (with_record a.what) (λ nu. a.answer) (rec (path_in p) a.what ∷ [])
+  ask_answered : told.at (known_to s) p ≡ None → told.below (known_to s) p ≡ false → (a : Fresh q) → (v : ℕ → ℕ) → asking.Draws m.words v (path_in p) a.what → ((E : World) → Suits E (with_record a.what v) → fresh q E (draws_in m.made) (path_in p) ≡ Some a) → Gives (λ nu. f) (λ nu. a.answer) m (with_record a.what v)
+  ask_answered unfound unbelow a v drew_words d = gives_at (λ nu. f) (λ nu. steps.ask q give) (λ nu. is) m (with_record a.what v) (λ nu. a.answer) (rec (path_in p) a.what ∷ [])
       (record { session = refl; trace = refl; pairs = refl; grows = grown })
       (record { scope = x.scope; outer = x.outer; below = below_new; falls = let h = x.left in omega (arith, h) })
       refl
+      (drew_words.dealt, tt)
+      (record { on = drew_words.moved })
       (λ nu fits c. clear_with nu fits c (rec (path_in p) a.what ∷ []) (λ r i. ap path_of (in_one i) ∙ x.path nu))
       (λ nu fits E su c k.
       let e = d E su in
       let w = rest_of m in
-      let drawn : drew q w ≡ rest_of (with_record a.what) = drew_is q E (draws_in m.made) (path_in p) a w e ∙ (λ i. record { left = sym x.left i; drawn = sym (draws_more m.made (path_in p) a.what) i; forks = m.forks; waits = m.waits }) in
+      let drawn : drew q w ≡ rest_of (with_record a.what v) = drew_is q E (draws_in m.made) (path_in p) a w e ∙ (λ i. record { left = sym x.left i; drawn = sym (draws_more m.made (path_in p) a.what) i; forks = m.forks; waits = m.waits }) in
       ask_run nu E k None false (Some a) (what_none (find (at_call nu) m.trace) (what_there nu c ∙ unfound)) (below_there nu c ∙ unbelow) (ap (λ z. fresh q E (draws_in m.made) z) (sym (x.path nu)) ∙ e)
       ∙ (λ i. add (rec (sym (x.path nu) i) a.what ∷ []) (k a.answer (sym (x.first nu fits) i) (drawn i))))
 
@@ -255,6 +263,7 @@ module _ (q : Question) (f : Step (AnsOf q)) (is : Asks f (steps.ask q give)) (s
       (record { session = refl; trace = refl; pairs = refl; grows = grown })
       (record { scope = x.scope; outer = x.outer; below = below_new; falls = let h = x.left in omega (arith, h) })
       refl
+      refl
       (λ nu fits E su c. record {
         at = next_call (m.heap.first nu);
         left = n.heap.left;
@@ -270,8 +279,8 @@ module _ (q : Question) (f : Step (AnsOf q)) (is : Asks f (steps.ask q give)) (s
   noted_waits (draws b) = refl
 
   -- where the asker refused the record
-  abbrev with_refusal : AskStop → Moment
-  with_refusal why = record m { heap = n.heap; stopped = Some why; unmade = moment.asking (path_in p) q }
+  abbrev with_refusal : AskStop → (ℕ → ℕ) → Moment
+  with_refusal why v = record m { heap = n.heap; stopped = Some why; unmade = moment.asking (path_in p) q; words = v }
 
   follows_fresh : (nu : Naming) (E : World) (k : AnsOf q → Rest → Res) (o : Option (Fresh q)) → (o ≡ None → unanswered q ≡ halted undrawn)
       → Follows [] (shown.next_fresh (path_in p) o) (on_ask q None false o E (at_call nu) (next_call (m.heap.first nu)) (rest_of m) k)
@@ -292,9 +301,9 @@ module _ (q : Question) (f : Step (AnsOf q)) (is : Asks f (steps.ask q give)) (s
   shown_why stop.TraceFull = refl
   shown_why stop.LogFull = refl
 
-  ask_refused : told.at (known_to s) p ≡ None → told.below (known_to s) p ≡ false → (why : AskStop) → ((E : World) → Suits E (with_refusal why) → fresh q E (draws_in m.made) (path_in p) ≡ None → unanswered q ≡ halted undrawn)
-      → Leaves (λ nu. f) (exit.Stopped why) m (with_refusal why)
-  ask_refused unfound unbelow why d = refused_at (λ nu. f) (λ nu. steps.ask q give) (λ nu. is) m (with_refusal why) why
+  ask_refused : told.at (known_to s) p ≡ None → told.below (known_to s) p ≡ false → (why : AskStop) → (v : ℕ → ℕ) → ((E : World) → Suits E (with_refusal why v) → fresh q E (draws_in m.made) (path_in p) ≡ None → unanswered q ≡ halted undrawn)
+      → Leaves (λ nu. f) (exit.Stopped why) m (with_refusal why v)
+  ask_refused unfound unbelow why v d = refused_at (λ nu. f) (λ nu. steps.ask q give) (λ nu. is) m (with_refusal why v) why
       (record { session = refl; trace = refl; pairs = refl; grows = grown }) refl (λ nu. shown_why why)
       (λ nu fits E su c k.
       let o = fresh q E (draws_in m.made) (path_in p) in
@@ -314,6 +323,8 @@ module _ (q : Question) (f : Step (AnsOf q)) (is : Asks f (steps.ask q give)) (s
       (record { session = refl; trace = refl; pairs = refl; grows = grown })
       (record { scope = x.scope; outer = x.outer; below = below_new; falls = let h = x.left in omega (arith, h) })
       (sym (append-nil m.made))
+      tt
+      (moves_same refl)
       (λ nu fits c r i z. clear_with nu fits c [] (λ r o. elim o [ ]) r (subst (λ l. In Rec r l) (sym (append-nil m.made)) i) z)
       (λ nu fits E su c k.
       let o = found_there r here nu c in
@@ -330,6 +341,7 @@ module _ (q : Question) (f : Step (AnsOf q)) (is : Asks f (steps.ask q give)) (s
   diverges_at y d t run = subst (λ y. Leaves (λ nu. f) y m with_index) (sym t.1) (halts_at (λ nu. f) (λ nu. steps.ask q give) (λ nu. is) m with_index (halt.Diverges t.0) (halted (diverged d)) (λ nu. (d, t.2, refl))
       (record { session = refl; trace = refl; pairs = refl; grows = grown })
       (record { scope = x.scope; outer = x.outer; below = below_new; falls = let h = x.left in omega (arith, h) })
+      refl
       refl
       (λ nu fits E su c. record { at = next_call (m.heap.first nu); left = m.heap.left; like = same_first nu fits; is = λ k. run nu fits E su c k }))
 
@@ -365,10 +377,10 @@ module _ (q : Question) (f : Step (AnsOf q)) (is : Asks f (steps.ask q give)) (s
       by (inr d) = ask_below unfound low y d
 
   pub ask_takes : (l : Moment) → told.at (known_to s) p ≡ None → told.below (known_to s) p ≡ false → (y : Result (AnsOf q) Exit) → asking.Asks q (path_in p) (record m { heap = n.heap }) l y → Takes (λ nu. f) (λ nu a. a) y m l
-  ask_takes l unfound low (Ok a) (asking.answered f' e d) = subst (λ l. Gives (λ nu. f) (λ nu. f'.answer) m l) (sym e) (ask_answered unfound low f' (λ E su. d E (subst (Suits E) (sym e) su)))
+  ask_takes l unfound low (Ok a) (asking.answered f' v e w d) = subst (λ l. Gives (λ nu. f) (λ nu. f'.answer) m l) (sym e) (ask_answered unfound low f' v w (λ E su. d E (subst (Suits E) (sym e) su)))
   ask_takes l unfound low (Err y) (asking.missing e out d) =
       let g : l ≡ with_wait = e ∙ ap (λ w. record m { heap = n.heap; waits = w }) (noted_waits q) in
       subst (λ l. Leaves (λ nu. f) (exit.Halted halt.Waits) m l) (sym g) (ask_missing unfound low out (λ E su. d E (subst (Suits E) (sym g) su)))
-  ask_takes l unfound low (Err y) (asking.refused why e d) = subst (λ l. Leaves (λ nu. f) (exit.Stopped why) m l) (sym e) (ask_refused unfound low why (λ E su. d E (subst (Suits E) (sym e) su)))
+  ask_takes l unfound low (Err y) (asking.refused why v e d) = subst (λ l. Leaves (λ nu. f) (exit.Stopped why) m l) (sym e) (ask_refused unfound low why v (λ E su. d E (subst (Suits E) (sym e) su)))
   ask_takes l unfound low (Err y) (asking.lost z h) = subst (λ y. Leaves (λ nu. f) y m l) (sym h.is)
       (lost_leaves m l (same_trans {a = m} {b = record m { heap = n.heap }} {c = l} (record { session = refl; trace = refl; pairs = refl; grows = grown }) h.same) h.made)

@@ -1,6 +1,6 @@
 -- What the asker did of an ask that has no record at its path.
-use Rattle.std.specs.Prelude.{ℤ, List, map, Option, Some, None, Result, Ok, Err, IfOk, Bool}
-use Rattle.std.proofs.Common.{◌≡◌, IsErrAnd, ℕ, suc, refl, sym, ap, subst, ◌∙◌, [], ◌∷◌, ◌++◌, inl, inr, ◌⊎◌}
+use Rattle.std.specs.Prelude.{ℤ, pos, int_rem, List, map, Option, Some, None, Result, Ok, Err, IfOk, Bool}
+use Rattle.std.proofs.Common.{◌≡◌, ◌+◌, arith, IsErrAnd, ℕ, suc, refl, sym, ap, subst, ◌∙◌, [], ◌∷◌, ◌++◌, inl, inr, ◌⊎◌}
 use Rattle.std.proofs.lemmas.List.{map-append}
 use Rattle.turk_base.specs.Names.{Path, path_in}
 use Rattle.turk_base.specs.declared.Record.{Record}
@@ -36,35 +36,44 @@ none_exit m (Err y) e h is = none_made m y (h ∙ is)
 
 -- ---- what the asker has
 
-module _ (heap : Seen) (s t : Asked) (notes : Notes) (trace : t.trace ≡ s.trace) (pairs : t.replies ≡ s.replies) where
-  pub as_before : t.made ≡ s.made → moment_at heap t notes ≡ moment_at heap s notes
-  as_before made = λ i. record (moment_at heap s notes) { trace = records_of (trace i); pairs = pairs i; made = records_of (made i) }
+module _ (heap : Seen) (s t : Asked) (before after : ℕ → ℕ) (notes : Notes) (trace : t.trace ≡ s.trace) (pairs : t.replies ≡ s.replies) where
+  -- but for the words that are to be drawn
+  pub as_before : t.made ≡ s.made → moment_at heap t after notes ≡ record (moment_at heap s before notes) { words = after }
+  as_before made = λ i. record (moment_at heap s before notes) { words = after; trace = records_of (trace i); pairs = pairs i; made = records_of (made i) }
 
-  pub with_one : (p : List ℕ) (what : Record) → t.made ≡ s.made ++ entry p what ∷ [] → moment_at heap t notes ≡ record (moment_at heap s notes) { made = records_of s.made ++ rec (path_in p) what ∷ [] }
+  -- where nothing was drawn
+  pub as_was : ((k : ℕ) → after k ≡ before k) → t.made ≡ s.made → moment_at heap t after notes ≡ moment_at heap s before notes
+  as_was same made = as_before made ∙ (λ i. record (moment_at heap s before notes) { words = λ k. same k i })
+
+  pub with_one : (p : List ℕ) (what : Record) → t.made ≡ s.made ++ entry p what ∷ [] → moment_at heap t after notes ≡ record (moment_at heap s before notes) { made = records_of s.made ++ rec (path_in p) what ∷ []; words = after }
   with_one p what made =
       let e : records_of t.made ≡ records_of s.made ++ rec (path_in p) what ∷ [] = ap records_of made ∙ map-append record_of s.made (entry p what ∷ []) in
-      λ i. record (moment_at heap s notes) { trace = records_of (trace i); pairs = pairs i; made = e i }
+      λ i. record (moment_at heap s before notes) { trace = records_of (trace i); pairs = pairs i; made = e i; words = after }
 
 -- ---- a call that was refused
 
-pub refused_asks : (q : Question) (p : Path) (old mid new : Moment) (why : AskStop) (y : Exit) → mid ≡ old → Refuses (asking p q) why y mid new
+same_words : {m n : Moment} {v : ℕ → ℕ} → Same (record m { words = v }) n → Same m n
+same_words h = record { session = h.session; trace = h.trace; pairs = h.pairs; grows = h.grows }
+
+pub refused_asks : (q : Question) (p : Path) (old mid new : Moment) (why : AskStop) (y : Exit) (v : ℕ → ℕ) → mid ≡ record old { words = v } → Refuses (asking p q) why y mid new
     → ((E : World) → E.pairs ≡ old.pairs → fresh q E (draws_in old.made) p ≡ None → unanswered q ≡ halted undrawn) → Asks q p old new (Err y)
-refused_asks q p old mid new why y e (inl (is, n)) lacks =
+refused_asks q p old mid new why y v e (inl (is, n)) lacks =
     let g = n ∙ ap (λ (m : Moment). record m { stopped = Some why; unmade = asking p q }) e in
-    subst (λ y. Asks q p old new (Err y)) (sym is) (spec.refused why g (λ E su. lacks E (su.pairs ∙ ap (λ (m : Moment). m.pairs) g)))
-refused_asks q p old mid new why y e (inr l) lacks = spec.lost y (record { is = l.is; same = subst (λ m. Same m new) e l.same; made = l.made ∙ ap (λ (m : Moment). m.made) e })
+    subst (λ y. Asks q p old new (Err y)) (sym is) (spec.refused why v g (λ E su. lacks E (su.pairs ∙ ap (λ (m : Moment). m.pairs) g)))
+refused_asks q p old mid new why y v e (inr l) lacks = spec.lost y (record { is = l.is; same = same_words (subst (λ m. Same m new) e l.same); made = l.made ∙ ap (λ (m : Moment). m.made) e })
 
 some_none : {A : Type 0} {x : A} → Some x ≡ None → ⊥
 some_none e = cc
 
 -- ---- posts
 
-pub post_asks : (heap : Seen) (s t : Asked) (notes : Notes) (fits later : Entry → Bool) (text p told : List ℕ) → Adds fits later (entry p (kept.Post text)) s t None → told ≡ token_of notes.session p
-    → Asks (posts text) (path_in p) (moment_at heap s notes) (moment_at heap t notes) (Ok told)
+pub post_asks : (heap : Seen) (s t : Asked) (before after : ℕ → ℕ) (notes : Notes) (fits later : Entry → Bool) (text p told : List ℕ) → Adds fits later (entry p (kept.Post text)) s t None → ((k : ℕ) → after k ≡ before k) → told ≡ token_of notes.session p
+    → Asks (posts text) (path_in p) (moment_at heap s before notes) (moment_at heap t after notes) (Ok told)
 unfolding fresh
-post_asks heap s t notes fits later text p told a e =
-    subst (λ y. Asks (posts text) (path_in p) (moment_at heap s notes) (moment_at heap t notes) (Ok y)) (token_tied notes.session p ∙ sym e)
-    (spec.answered (record { answer = token notes.session (path_in p); what = kept.Post text }) (with_one heap s t notes a.stays.trace a.stays.replies p (kept.Post text) a.made)
+post_asks heap s t before after notes fits later text p told a same e =
+    subst (λ y. Asks (posts text) (path_in p) (moment_at heap s before notes) (moment_at heap t after notes) (Ok y)) (token_tied notes.session p ∙ sym e)
+    (spec.answered (record { answer = token notes.session (path_in p); what = kept.Post text }) after (with_one heap s t before after notes a.stays.trace a.stays.replies p (kept.Post text) a.made)
+    (record { dealt = tt; moved = λ k. same k ∙ ap before (omega arith) })
     (λ E su i. Some (record { answer = token (su.session i) (path_in p); what = kept.Post text })))
 
 pub post_lacks : (text : List ℕ) (p : Path) (n : ℕ) (E : World) → fresh (posts text) E n p ≡ None → unanswered (posts text) ≡ halted undrawn
@@ -101,13 +110,15 @@ unfolding after
 dealt_last d p x [] k h = h.0
 dealt_last d p x (rec q y ∷ l) k h = dealt_last d p x l (drawn_by y k) h.1
 
-pub draw_asks : (heap : Seen) (s t : Asked) (notes : Notes) (fits later : Entry → Bool) (p : List ℕ) (bound value told : ℤ) → Adds fits later (entry p (kept.Draw bound value)) s t None → told ≡ value
-    → Asks (draws bound) (path_in p) (moment_at heap s notes) (moment_at heap t notes) (Ok told)
+pub draw_asks : (heap : Seen) (s t : Asked) (before after : ℕ → ℕ) (notes : Notes) (fits later : Entry → Bool) (p : List ℕ) (bound value told : ℤ) → Adds fits later (entry p (kept.Draw bound value)) s t None
+    → told ≡ int_rem (pos (before 0)) bound → ((k : ℕ) → after k ≡ before (1 + k)) → told ≡ value
+    → Asks (draws bound) (path_in p) (moment_at heap s before notes) (moment_at heap t after notes) (Ok told)
 unfolding fresh
-draw_asks heap s t notes fits later p bound value told a e =
-    let n = with_one heap s t notes a.stays.trace a.stays.replies p (kept.Draw bound value) a.made in
-    subst (λ y. Asks (draws bound) (path_in p) (moment_at heap s notes) (moment_at heap t notes) (Ok y)) (sym e)
-    (spec.answered (record { answer = value; what = kept.Draw bound value }) n
+draw_asks heap s t before after notes fits later p bound value told a word next e =
+    let n = with_one heap s t before after notes a.stays.trace a.stays.replies p (kept.Draw bound value) a.made in
+    subst (λ y. Asks (draws bound) (path_in p) (moment_at heap s before notes) (moment_at heap t after notes) (Ok y)) (sym e)
+    (spec.answered (record { answer = value; what = kept.Draw bound value }) after n
+    (record { dealt = ap Some (sym word ∙ e); moved = next })
     (λ E su.
     let dealt = subst (AllDealt E.dice 0) (ap (λ (m : Moment). m.made) n) su.dealt in
     ap (fresh_draw bound) (subst (λ k. draw_of E.dice k (path_in p) bound ≡ Some value) (after_is (records_of s.made)) (dealt_last E.dice (path_in p) (kept.Draw bound value) (records_of s.made) 0 dealt))))
@@ -131,41 +142,41 @@ reply_none : (E : World) (m : Moment) (pairs : List (List ℕ × List ℕ)) (key
 unfolding fresh
 reply_none E m pairs key n p e su h = ap (fresh_reply key) (ap (λ l. answer l key) (su.pairs ∙ e) ∙ answer_tied pairs key ∙ h)
 
-module _ (heap : Seen) (s t : Asked) (notes : Notes) (fits later : Entry → Bool) (p key : List ℕ) where
-  pub reply_asks : (text : List ℕ) (r : Result (Option (List ℕ)) AskStop) → r ≡ Ok (Some text) → Replies fits later p key s t r (told.answer s.replies key) → Asks (replies key) (path_in p) (moment_at heap s notes) (moment_at heap t notes) (Ok text)
+module _ (heap : Seen) (s t : Asked) (before after : ℕ → ℕ) (same : (k : ℕ) → after k ≡ before k) (notes : Notes) (fits later : Entry → Bool) (p key : List ℕ) where
+  pub reply_asks : (text : List ℕ) (r : Result (Option (List ℕ)) AskStop) → r ≡ Ok (Some text) → Replies fits later p key s t r (told.answer s.replies key) → Asks (replies key) (path_in p) (moment_at heap s before notes) (moment_at heap t after notes) (Ok text)
   unfolding ok_of
   reply_asks text r is h = by (told.answer s.replies key) refl (subst (λ r. Replies fits later p key s t r (told.answer s.replies key)) is h)
     where
-      by : (o : Option (List ℕ)) → told.answer s.replies key ≡ o → Replies fits later p key s t (Ok (Some text)) o → Asks (replies key) (path_in p) (moment_at heap s notes) (moment_at heap t notes) (Ok text)
+      by : (o : Option (List ℕ)) → told.answer s.replies key ≡ o → Replies fits later p key s t (Ok (Some text)) o → Asks (replies key) (path_in p) (moment_at heap s before notes) (moment_at heap t after notes) (Ok text)
       by None e h = absurd (some_none (ap ok_of h.0))
       by (Some there) e h =
-          let same : text ≡ there = some_same h.0 in
+          let equal : text ≡ there = some_same h.0 in
           let a = h.1 in
-          let n = with_one heap s t notes a.stays.trace a.stays.replies p (kept.Reply key there) a.made in
-          subst (λ y. Asks (replies key) (path_in p) (moment_at heap s notes) (moment_at heap t notes) (Ok y)) (sym same)
-          (spec.answered (record { answer = there; what = kept.Reply key there }) n (λ E su. reply_there E (moment_at heap t notes) s.replies key there (draws_in (records_of s.made)) (path_in p) a.stays.replies su e))
+          let n = with_one heap s t before after notes a.stays.trace a.stays.replies p (kept.Reply key there) a.made in
+          subst (λ y. Asks (replies key) (path_in p) (moment_at heap s before notes) (moment_at heap t after notes) (Ok y)) (sym equal)
+          (spec.answered (record { answer = there; what = kept.Reply key there }) after n (record { dealt = tt; moved = λ k. same k ∙ ap before (omega arith) }) (λ E su. reply_there E (moment_at heap t after notes) s.replies key there (draws_in (records_of s.made)) (path_in p) a.stays.replies su e))
         where
           some_same : {A : Type 0} {x y : A} → Some x ≡ Some y → x ≡ y
           some_same e = cc
 
   -- the snapshot lacks the token
-  pub reply_missing : (r : Result (Option (List ℕ)) AskStop) → r ≡ Ok None → Replies fits later p key s t r (told.answer s.replies key) → (told.answer s.replies key ≡ None) × (moment_at heap t notes ≡ moment_at heap s notes)
+  pub reply_missing : (r : Result (Option (List ℕ)) AskStop) → r ≡ Ok None → Replies fits later p key s t r (told.answer s.replies key) → (told.answer s.replies key ≡ None) × (moment_at heap t after notes ≡ moment_at heap s before notes)
   unfolding ok_of
   reply_missing r is h = by (told.answer s.replies key) refl (subst (λ r. Replies fits later p key s t r (told.answer s.replies key)) is h)
     where
-      by : (o : Option (List ℕ)) → told.answer s.replies key ≡ o → Replies fits later p key s t (Ok None) o → (told.answer s.replies key ≡ None) × (moment_at heap t notes ≡ moment_at heap s notes)
-      by None e h = (e, as_before heap s t notes h.1.trace h.1.replies h.2)
+      by : (o : Option (List ℕ)) → told.answer s.replies key ≡ o → Replies fits later p key s t (Ok None) o → (told.answer s.replies key ≡ None) × (moment_at heap t after notes ≡ moment_at heap s before notes)
+      by None e h = (e, as_was heap s t before after notes h.1.trace h.1.replies same h.2)
       by (Some there) e h = absurd (some_none (sym h.0))
 
   -- the asker refused its record
   pub reply_refused : (why : AskStop) (r : Result (Option (List ℕ)) AskStop) → r ≡ Err why → Replies fits later p key s t r (told.answer s.replies key)
-      → (text : List ℕ) × (told.answer s.replies key ≡ Some text) × (moment_at heap t notes ≡ moment_at heap s notes)
+      → (text : List ℕ) × (told.answer s.replies key ≡ Some text) × (moment_at heap t after notes ≡ moment_at heap s before notes)
   unfolding err_text
   reply_refused why r is h = by (told.answer s.replies key) refl (subst (λ r. Replies fits later p key s t r (told.answer s.replies key)) is h)
     where
-      by : (o : Option (List ℕ)) → told.answer s.replies key ≡ o → Replies fits later p key s t (Err why) o → (text : List ℕ) × (told.answer s.replies key ≡ Some text) × (moment_at heap t notes ≡ moment_at heap s notes)
+      by : (o : Option (List ℕ)) → told.answer s.replies key ≡ o → Replies fits later p key s t (Err why) o → (text : List ℕ) × (told.answer s.replies key ≡ Some text) × (moment_at heap t after notes ≡ moment_at heap s before notes)
       by None e h = absurd (some_none (ap err_text h.0))
-      by (Some there) e h = (there, e, as_before heap s t notes h.1.stays.trace h.1.stays.replies h.1.made)
+      by (Some there) e h = (there, e, as_was heap s t before after notes h.1.stays.trace h.1.stays.replies same h.1.made)
 
 pub reply_lacks : (pairs : List (List ℕ × List ℕ)) (key text : List ℕ) (p : Path) (n : ℕ) (E : World) → E.pairs ≡ pairs → told.answer pairs key ≡ Some text → fresh (replies key) E n p ≡ None → unanswered (replies key) ≡ halted undrawn
 unfolding fresh

@@ -47,7 +47,7 @@ use Rattle.machine_host.specs.Moments.{wait_in}
 use Rattle.machine_host.specs.declared.AskedRun.{AskedRun}
 use Rattle.machine_host.specs.Runs.{moment_of}
 use Rattle.ask_model.specs.Asker.{Seen as Asked}
-use Rattle.machine_host.proofs.Turns.{Asks, asks_of, naming, with_heap, same_heap, within_heap, program_came, answered_run, refused_run, spent_run, lost_run, takes_steps, KeepsGone}
+use Rattle.machine_host.proofs.Turns.{moves_same, Asks, asks_of, naming, with_heap, same_heap, within_heap, program_came, answered_run, refused_run, spent_run, lost_run, takes_steps, KeepsGone}
 use Rattle.machine_host.proofs.Answered.{looked, stays_of, gone_of}
 use native.Mathlib.Nat.{le_refl}
 
@@ -83,14 +83,16 @@ pub record Stopped {A : Type 0} (g : Small A) (m : Moment) (E : World) (out : Ou
   pub is : (k : A → St → Rest → Res) → run_steps g E m.trace m.heap.scope.path m.heap.scope.branch m.heap.scope.body k σ (rest_of m) ≡ res out at (record rest { left = left })
 
 module _ {A : Type 0} (f : Naming → Step A) (g : Naming → Small A) (asks : (nu : Naming) → Asks (f nu) (g nu)) where
-  pub halts_leave : (m n : Moment) (h : Halt) (out : Out) → IsOut h out → Same m n → Within m n → n.made ≡ m.made
+  pub halts_leave : (m n : Moment) (h : Halt) (out : Out) → IsOut h out → Same m n → Within m n → n.made ≡ m.made → n.words ≡ m.words
       → ((nu : Naming) → Fits nu n.heap.names → (E : World) → Stopped (g nu) m E out (n.heap.first nu) (rest_of n) (m.heap.first nu)) → Leaves f (exit.Halted h) m n
-  halts_leave m n h out is same within made d = record {
+  halts_leave m n h out is same within made drawn d = record {
     ends = λ go. record {
       same = same;
       within = λ nu z. within;
       added = [];
       made = made ∙ sym (append-nil m.made);
+      dealt = tt;
+      moved = λ nu z. moves_same drawn;
       shown = λ nu. tt;
       ran = λ nu fits E s bound l c.
           let q = d nu fits E in
@@ -109,7 +111,7 @@ module _ {A : Type 0} (f : Naming → Step A) (g : Naming → Small A) (asks : (
 
 pub forks_refused : (m : Moment) → m.heap.scope.body ≡ true → Leaves (λ nu. ask MayFork) (exit.Halted (halt.Refused refusal.ForkInOnce)) m m
 unfolding steps_of act
-forks_refused m e = halts_leave (λ nu. ask MayFork) (λ nu. steps_of MayFork) (λ nu. asks_of MayFork) m m (halt.Refused refusal.ForkInOnce) (ended (bar model.ForkInOnce)) refl same_refl within_refl refl
+forks_refused m e = halts_leave (λ nu. ask MayFork) (λ nu. steps_of MayFork) (λ nu. asks_of MayFork) m m (halt.Refused refusal.ForkInOnce) (ended (bar model.ForkInOnce)) refl same_refl within_refl refl refl
     (λ nu fits E. record {
       at = m.heap.first nu;
       left = m.heap.left;
@@ -135,6 +137,8 @@ lost_leaves m n same made = record {
     within = λ nu z. absurd z;
     added = [];
     made = made ∙ sym (append-nil m.made);
+    dealt = tt;
+    moved = λ nu z. absurd z;
     shown = λ nu. tt;
     ran = λ nu fits E s bound l c. fails (record { holds = λ k. front _ refl });
   };
@@ -155,7 +159,7 @@ crash_is m nu E = record {
 pub crashes : (m n : Moment) → n ≡ waiting_for m (crashed m.heap.scope.path) → Leaves (λ nu. ask Crash) (exit.Halted halt.Waits) m n
 crashes m n e = subst (λ n. Leaves (λ nu. ask Crash) (exit.Halted halt.Waits) m n) (sym e)
     (halts_leave (λ nu. ask Crash) (λ nu. steps_of Crash) (λ nu. asks_of Crash) m (waiting_for m (crashed m.heap.scope.path)) halt.Waits waits refl
-    (record { session = refl; trace = refl; pairs = refl; grows = λ i n q. q }) (record { scope = refl; outer = refl; below = (within_refl {m = m}).below; falls = le_refl m.heap.left }) refl (λ nu fits E. crash_is m nu E))
+    (record { session = refl; trace = refl; pairs = refl; grows = λ i n q. q }) (record { scope = refl; outer = refl; below = (within_refl {m = m}).below; falls = le_refl m.heap.left }) refl refl (λ nu fits E. crash_is m nu E))
 
 pub more_waits : (l : List Code) (w : Code) → map wait_in (l ++ w ∷ []) ≡ map wait_in l ++ wait_in w ∷ []
 more_waits [] w = refl
@@ -176,7 +180,7 @@ join_is m nu E k body gone many b g t =
     ∙ (λ i. on_act (act_join (b i) (g i) (t i) m.heap.scope.path (m.heap.first nu)) (m.heap.first nu) (rest_of m) (λ vs τ x. run_steps (joined true vs) E m.trace m.heap.scope.path m.heap.scope.branch m.heap.scope.body k τ x))
 
 pub join_refused : (m : Moment) → m.heap.scope.body ≡ true → Leaves (λ nu. ask (Join true)) (exit.Halted (halt.Refused refusal.ForkInOnce)) m m
-join_refused m e = halts_leave (λ nu. ask (Join true)) (λ nu. steps_of (Join true)) (λ nu. asks_of (Join true)) m m (halt.Refused refusal.ForkInOnce) (ended (bar model.ForkInOnce)) refl same_refl within_refl refl
+join_refused m e = halts_leave (λ nu. ask (Join true)) (λ nu. steps_of (Join true)) (λ nu. asks_of (Join true)) m m (halt.Refused refusal.ForkInOnce) (ended (bar model.ForkInOnce)) refl same_refl within_refl refl refl
     (λ nu fits E. record {
       at = m.heap.first nu;
       left = m.heap.left;
@@ -196,7 +200,7 @@ module _ (m : Moment) (t : Seen) (here : m.heap.scope.body ≡ false) where
   join_stops h out is stays d =
       let n = naming t.names in
       let low = (d n.0 n.1 (record { session = m.session; pairs = m.pairs; dice = told_by [] })).1 in
-      halts_leave (λ nu. ask (Join true)) (λ nu. steps_of (Join true)) (λ nu. asks_of (Join true)) m (with_heap m t) h out is (same_heap m t stays) (within_heap m t stays (omega (arith, low))) refl
+      halts_leave (λ nu. ask (Join true)) (λ nu. steps_of (Join true)) (λ nu. asks_of (Join true)) m (with_heap m t) h out is (same_heap m t stays) (within_heap m t stays (omega (arith, low))) refl refl
       (λ nu fits E. let q = d nu fits E in record { at = m.heap.first nu; left = m.heap.left; like = same_like q.0; is = q.2 })
 
   pub join_waits : (o : Option Value) → o ≡ None → Joins true (Ok o) m.heap t → Leaves (λ nu. ask (Join true)) (exit.Halted halt.Waits) m (with_heap m t)
@@ -240,7 +244,7 @@ module _ (g : Naming → Prog) (m : Moment) (t : Seen) (stays : Stays m.heap t) 
 
 pub built_in_run : {X : Type 0} (g : Naming → Prog) (seen : X → Asked) (words : X → ℕ → ℕ) (run : AskedRun X) (n : Run) (r : Result CallEnd OpStop) (x : Result Value Exit) → x ≡ value_at r → does.Runs g (λ nu. told (end_in nu) r) (guarded run.guarded.machine) (guarded n)
     → Runs g (λ nu. told_value nu x) (moment_of seen words run) (with_heap (moment_of seen words run) (seen_of n))
-built_in_run g seen run n r x e d =
+built_in_run g seen words run n r x e d =
     let old = moment_of seen words run in
     subst (λ x. Runs g (λ nu. told_value nu x) old (with_heap old (seen_of n))) (sym e)
     (called_run g old (seen_of n) (stays_of run.guarded.machine n d.stays) r d.ran (gone_of run.guarded.machine n d.stays))

@@ -29,7 +29,7 @@ path_more l i = on_more root l i
 
 pub indexed : {X : Type 0} (seen : X → Asked) (words : X → ℕ → ℕ) (run : AskedRun X) (m : Run) (p : List ℕ) → p ≡ run.guarded.machine.heap.place.path ++ run.guarded.machine.heap.place.calls ∷ [] → Changes (λ nu σ. next_call σ) (seen_of run.guarded.machine) (seen_of m)
     → Indexed p (moment_of seen words run) (with_heap (moment_of seen words run) (seen_of m))
-indexed seen run m p e c = record {
+indexed seen words run m p e c = record {
   names = c.names;
   scope = c.scope;
   outer = c.outer;

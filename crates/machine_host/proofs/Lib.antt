@@ -5,4 +5,5 @@ pub mod Calls
 pub mod Fresh
 pub mod Halting
 pub mod Indexes
+pub mod Opening
 pub mod Turns

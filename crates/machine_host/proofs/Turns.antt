@@ -1,6 +1,6 @@
 -- From what a call on a machine did to what the run does between two moments that differ in the heap alone.
 use Rattle.std.specs.Prelude.{List, Option, Some, None, slice_get, Result, Ok, Err}
-use Rattle.std.proofs.Common.{◌≡◌, ◌≤◌, ◌<◌, ℕ, zero, suc, refl, sym, ap, subst, ◌∙◌, arith, [], ◌∷◌, ◌++◌, append-nil, length}
+use Rattle.std.proofs.Common.{◌≡◌, ◌≤◌, ◌<◌, ◌+◌, ℕ, zero, suc, refl, sym, ap, subst, ◌∙◌, arith, [], ◌∷◌, ◌++◌, append-nil, length}
 use Rattle.turk_base.specs.Asks.{Rec, path_of}
 use Rattle.turk_base.specs.Names.{Name, root, cell, In}
 use Rattle.turk_base.specs.Values as model
@@ -28,7 +28,7 @@ use Rattle.run_host.specs.declared.Halt.TheVariants as halt
 use Rattle.run_host.specs.declared.Refusal.{Refusal}
 use Rattle.run_host.specs.declared.Refusal.TheVariants as refusal
 use Rattle.run_host.specs.declared.Exit.{Exit}
-use Rattle.run_host.specs.Moment.{Moment, rest_of, draws_in, Suits, Clear, place, Same, Within}
+use Rattle.run_host.specs.Moment.{Moment, rest_of, draws_in, Moves, Suits, Clear, place, Same, Within}
 use Rattle.run_host.specs.Told.{Told, Says, Halts, Fails, GoesOn, next_of, told_exit, told_value, IsOut, refusal_in}
 use Rattle.run_host.specs.Ends.{Like, Comes as Outcomes, says, halts, fails}
 use Rattle.run_host.specs.Did.{Runs}
@@ -62,6 +62,10 @@ module _ (m : Moment) (t : Seen) (stays : Stays m.heap t) where
   pub clear_heap : (nu : Naming) → (t.first nu).calls ≡ (m.heap.first nu).calls → Clear nu m → Clear nu (with_heap m t)
   clear_heap nu e c r i a =
       c r i (subst (λ (p : Scope). After p.path (m.heap.first nu).calls (path_of r)) stays.scope (subst (λ n. After t.scope.path n (path_of r)) e a))
+
+-- nothing was drawn
+pub moves_same : {m n : Moment} → n.words ≡ m.words → Moves m n []
+moves_same {m} {n} e = record { on = λ k. ap (λ (w : ℕ → ℕ). w k) e ∙ ap m.words (omega arith) }
 
 -- ---- programs that begin with steps
 

@@ -1,5 +1,5 @@
 -- What an ask of the outside did: its index, what a record answered, and what was made.
-use Rattle.std.specs.Prelude.{◌≡◌, ◌⊎◌, List, [], ◌∷◌, ◌++◌, ℕ, Option, Some, None, Result, Ok, Err}
+use Rattle.std.specs.Prelude.{◌≡◌, ◌⊎◌, List, [], ◌∷◌, ◌++◌, ◌+◌, ℕ, Option, Some, None, Result, Ok, Err}
 use Rattle.turk_base.specs.Names.{Path, sub, path_in, Units}
 use Rattle.turk_base.specs.declared.Record.{Record}
 use Rattle.turk_base.specs.State.{next_call}
@@ -15,7 +15,7 @@ use Rattle.value_cells.specs.Seen.{Naming, Fits}
 use Rattle.run_host.specs.declared.Exit.{Exit}
 use Rattle.run_host.specs.declared.Exit.TheVariants.{Halted, Stopped}
 use Rattle.run_host.specs.declared.Halt.TheVariants.{Waits, Diverges}
-use Rattle.run_host.specs.Moment.{Moment, Unmade, asking, draws_in, rest_of, Suits, Same}
+use Rattle.run_host.specs.Moment.{Moment, Unmade, asking, drawn_by, Deals, draws_in, rest_of, Suits, Same}
 use Rattle.run_host.specs.Told.{TellsOf}
 
 -- The call with the path p took its index, and nothing else changed.
@@ -51,9 +51,14 @@ abbrev pub KeptGives : (q : Question) → Units → Path → Record → Result (
 KeptGives q session p r (Ok a) = kept_answer q session p r ≡ Some a
 KeptGives q session p r (Err x) = (x ≡ Stopped Memory) ⊎ ((kept_answer q session p r ≡ None) × Tells x (diverges p (found_kept r) (called_by q)))
 
+-- Where the record of a call is a draw, it has the first of the words that were to be drawn, and the others are still to be.
+pub record Draws (before after : ℕ → ℕ) (p : Path) (what : Record) : Type 0 where
+  pub dealt : Deals (meaning.words before) 0 p what
+  pub moved : (k : ℕ) → after k ≡ before (drawn_by what 0 + k)
+
 -- What an ask did that has no record at its path p.
 pub data Asks (q : Question) (p : Path) (old new : Moment) : Result (AnsOf q) Exit → Type 0 where
-  answered : (f : Fresh q) → new ≡ record old { made = old.made ++ rec p f.what ∷ [] } → ((E : World) → Suits E new → fresh q E (draws_in old.made) p ≡ Some f) → Asks q p old new (Ok f.answer)
+  answered : (f : Fresh q) → (v : ℕ → ℕ) → new ≡ record old { made = old.made ++ rec p f.what ∷ []; words = v } → Draws old.words v p f.what → ((E : World) → Suits E new → fresh q E (draws_in old.made) p ≡ Some f) → Asks q p old new (Ok f.answer)
   missing : new ≡ record old { waits = (noted q (rest_of old)).waits } → unanswered q ≡ waits → ((E : World) → Suits E new → fresh q E (draws_in old.made) p ≡ None) → Asks q p old new (Err (Halted Waits))
-  refused : (why : AskStop) → new ≡ record old { stopped = Some why; unmade = asking p q } → ((E : World) → Suits E new → fresh q E (draws_in old.made) p ≡ None → unanswered q ≡ halted undrawn) → Asks q p old new (Err (Stopped why))
+  refused : (why : AskStop) → (v : ℕ → ℕ) → new ≡ record old { stopped = Some why; unmade = asking p q; words = v } → ((E : World) → Suits E new → fresh q E (draws_in old.made) p ≡ None → unanswered q ≡ halted undrawn) → Asks q p old new (Err (Stopped why))
   lost : (x : Exit) → Loses x old new → Asks q p old new (Err x)

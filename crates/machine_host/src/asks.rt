@@ -34,7 +34,7 @@ const MOST_UNITS: usize = 1_048_576;
 impl<A: Asker> AskedRun<A> {
     /// Takes the index of a call, and gives its path. Memory is answered also where the asker was closed, or there is no room
     /// for an index more.
-    fn take_index(&mut self) -> Result<Path, Exit>
+    pub fn take_index(&mut self) -> Result<Path, Exit>
         requires sound { IsSound A.is_sound A.seen self.old }
         ensures taken { IfOk result (λ p. Indexed p (moment_of A.seen A.words self.old) (moment_of A.seen A.words self.new)) }
         ensures some { IfOk result (λ p. 0 < length p) }

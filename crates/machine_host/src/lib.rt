@@ -12,6 +12,7 @@ mod asks;
 mod exits;
 mod guarded;
 mod kept;
+mod opens;
 mod parts;
 mod requests;
 mod scopes;

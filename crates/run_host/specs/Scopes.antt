@@ -5,7 +5,7 @@ use Rattle.turk_base.specs.Values as model
 use Rattle.turk_base.specs.State.{St, once_call, next_call, enter}
 use Rattle.turk_base.specs.Asks.{find}
 use Rattle.turk_base.specs.Prog.{Prog}
-use Rattle.value_cells.specs.Seen.{Naming, Seen, count}
+use Rattle.value_cells.specs.Seen.{Naming, Seen, Fits, count}
 use Rattle.run_host.specs.declared.Exit.{Exit}
 use Rattle.run_host.specs.Moment.{Moment}
 use Rattle.run_host.specs.Told.{Told, Says, told_exit}
@@ -37,8 +37,8 @@ pub record Opens (is_branch : Bool) (old new : Moment) : Type 0 where
   pub words : new.words ≡ old.words
   pub waits : new.waits ≡ old.waits
   pub outer : new.heap.outer ≡ old.heap.scope ∷ old.heap.outer
-  pub first : (nu : Naming) → new.heap.first nu ≡ enter (called is_branch old.heap.scope.branch (old.heap.first nu))
-  pub back : (nu : Naming) → new.heap.scope.back nu ≡ called is_branch old.heap.scope.branch (old.heap.first nu)
+  pub first : (nu : Naming) → Fits nu old.heap.names → new.heap.first nu ≡ enter (called is_branch old.heap.scope.branch (old.heap.first nu))
+  pub back : (nu : Naming) → Fits nu old.heap.names → new.heap.scope.back nu ≡ called is_branch old.heap.scope.branch (old.heap.first nu)
   pub path : (nu : Naming) → new.heap.scope.path ≡ sub (old.heap.first nu).calls old.heap.scope.path
   pub unfound : find new.heap.scope.path old.trace ≡ None
 

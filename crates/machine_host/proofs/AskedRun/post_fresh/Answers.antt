@@ -23,13 +23,13 @@ returns-in_err-token-clause-did g c = none_exit _ c.from_residual.result c.in_er
 pub returns-in-Ok-post-clause-did : goal.returns-in-Ok-post-clause-did
 returns-in-Ok-post-clause-did g c =
     let h = c.args.self.now in
-    post_asks (heap_of h) (g.A.Asker.seen h.asker) (g.A.Asker.seen c.post.new.self) (notes_of h.notes) (g.A.Asker.fits h.asker) (g.A.Asker.fits c.post.new.self) c.args.text.now c.args.path c.in_ok-token.token c.in-Ok-post.ensures.adds c.in_ok-token.ensures.ok
+    post_asks (heap_of h) (g.A.Asker.seen h.asker) (g.A.Asker.seen c.post.new.self) (g.A.Asker.words h.asker) (g.A.Asker.words c.post.new.self) (notes_of h.notes) (g.A.Asker.fits h.asker) (g.A.Asker.fits c.post.new.self) c.args.text.now c.args.path c.in_ok-token.token c.in-Ok-post.ensures.adds c.in-Ok-post.ensures.words c.in_ok-token.ensures.ok
 
 pub returns-in-Err-clause-did : goal.returns-in-Err-clause-did
 returns-in-Err-clause-did g c =
     let h = c.args.self.now in
     let a = c.in-Err.ensures.adds in
-    refused_asks (posts c.args.text.now) (path_in c.args.path) (moment_of g.A.Asker.seen g.A.Asker.words h) _ (moment_of g.A.Asker.seen g.A.Asker.words c.refuse.new.self) c.in-Err.stop c.refuse.result
-    (as_before (heap_of h) (g.A.Asker.seen h.asker) (g.A.Asker.seen c.post.new.self) (notes_of h.notes) a.stays.trace a.stays.replies a.made)
-    (subst (λ t. Refuses (asking (path_in c.args.path) (posts t)) c.in-Err.stop c.refuse.result (moment_at (heap_of h) (g.A.Asker.seen c.post.new.self) (notes_of h.notes)) (moment_of g.A.Asker.seen g.A.Asker.words c.refuse.new.self)) c.in-Ok.ensures c.refuse.ensures.told)
+    refused_asks (posts c.args.text.now) (path_in c.args.path) (moment_of g.A.Asker.seen g.A.Asker.words h) _ (moment_of g.A.Asker.seen g.A.Asker.words c.refuse.new.self) c.in-Err.stop c.refuse.result (g.A.Asker.words c.post.new.self)
+    (as_before (heap_of h) (g.A.Asker.seen h.asker) (g.A.Asker.seen c.post.new.self) (g.A.Asker.words h.asker) (g.A.Asker.words c.post.new.self) (notes_of h.notes) a.stays.trace a.stays.replies a.made)
+    (subst (λ t. Refuses (asking (path_in c.args.path) (posts t)) c.in-Err.stop c.refuse.result (moment_at (heap_of h) (g.A.Asker.seen c.post.new.self) (g.A.Asker.words c.post.new.self) (notes_of h.notes)) (moment_of g.A.Asker.seen g.A.Asker.words c.refuse.new.self)) c.in-Ok.ensures c.refuse.ensures.told)
     (λ E su. post_lacks c.args.text.now (path_in c.args.path) (draws_in (moment_of g.A.Asker.seen g.A.Asker.words h).made) E)
