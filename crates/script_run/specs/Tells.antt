@@ -5,7 +5,8 @@ use Rattle.turk_base.specs.Asks.{Rec}
 use Rattle.turk_base.specs.Told.{verdict_told, records_of}
 use Rattle.turk_base.specs.Values.{Wait}
 use Rattle.js_tree.specs.World as world
-use Rattle.js_tree.specs.World.{World}
+use Rattle.turk_base.specs.State.{St}
+use Rattle.js_tree.specs.World.{World, Rest}
 use Rattle.js_tree.specs.Run.{Res, halted, diverged}
 use Rattle.js_tree.specs.declared.Script.{Script}
 use Rattle.js_tree.specs.Eval.{Eval, eval, meaning}
@@ -36,8 +37,13 @@ EndIn (end.Refused y) r w = r ≡ report.Refused (refusal_in y)
 EndIn (end.Waiting l) r w = (r ≡ report.Waiting) × (w ≡ map wait_in l.items)
 EndIn end.Spent r w = r ≡ report.Spent
 
-abbrev pub EndIs : End → Res → Type 0
-EndIs x e = EndIn x (end_of e.out e.st) e.rest.waits
+-- The run e ended so, at the state σ with these counts, where these records were made.
+pub record EndsAt (x : End) (σ : St) (w : Rest) (made : List Rec) (e : Res) : Type 0 where
+  pub is : EndIn x (end_of e.out e.st) e.rest.waits
+  pub text : e.st.text ≡ σ.text
+  pub verdict : e.st.verdict ≡ σ.verdict
+  pub forks : e.rest.forks ≡ w.forks
+  pub made_are : e.made ≡ made
 
 -- What is told is what the definitions tell, and these are the records that the run makes.
 pub record Tells (ran : Ran) (made : List Rec) (r : Report) : Type 0 where

@@ -1,5 +1,5 @@
 -- Looking a property up changes no property, and finds what the definitions say.
-use Rattle.std.proofs.Common.{◌≡◌, refl, ap, sym, ◌∙◌, subst, ℕ, ◌-◌, nat_lt, Bool, true, false, List, [], ◌∷◌, Option, Some, None, option_map, codes, Result, Ok, Err, IfOk}
+use Rattle.std.proofs.Common.{◌≡◌, refl, ap, sym, ◌∙◌, subst, ℕ, ◌-◌, nat_lt, Bool, true, false, List, [], ◌∷◌, Option, Some, None, option_map, codes, Result, Ok, Err, IfOk, OnOk}
 use Rattle.turk_base.specs.declared.NoMemory.{NoMemory}
 use Rattle.turk_base.specs.Names.{Path, Name, Units, name_eq, pick}
 use Rattle.turk_base.specs.Values.{Val, Known}
@@ -103,3 +103,7 @@ object_is {cell} {key} {key'} {name} {message} {s} {t} {u} (Ok text) k f k' g h 
     let before = fits_before g.grows fits in
     h _ _ (f.found nu before ∙ ap (λ k. text_found (found_on (s.first nu) (nu cell) k)) k)
     (g.found nu fits ∙ ap text_found (found_on_alike (f.alike nu before) (nu cell) key' ∙ ap (found_on (s.first nu) (nu cell)) k'))
+
+pub always : {A B : Type 0} {P : Type 0} (r : Result A B) → P → OnOk r P
+always (Ok a) p = p
+always (Err e) p = tt

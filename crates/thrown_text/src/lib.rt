@@ -1,12 +1,12 @@
 //! The text that is told of a value that was thrown and never caught.
 #![tactic(auto)]
 
-ghost use Rattle.std.specs.Prelude.{◌≡◌, ◌<◌, ◌≤◌, ◌++◌, IfOk, Option, codes};
+ghost use Rattle.std.specs.Prelude.{◌≡◌, ◌<◌, ◌≤◌, ◌++◌, IfOk, OnOk, Option, codes};
 ghost use Rattle.std.specs.Option.{option_map};
 ghost use Rattle.turk_base.specs.Values.{Val};
 ghost use Rattle.js_tree.specs.Report as told;
 ghost use Rattle.value_cells.specs.Needs.{needs};
-ghost use Rattle.value_cells.specs.Seen.{Naming, Fits, count, val_in};
+ghost use Rattle.value_cells.specs.Seen.{Naming, Fits, Grows, count, val_in};
 ghost use Rattle.thrown_text.specs.Finds.{Finds, text_found};
 
 use convert_rules::Prim;
@@ -77,6 +77,7 @@ fn error_text(alloc: Global, name: Option<Units>, message: Option<Units>) -> Res
 fn object_text<H: Heap>(alloc: Global, heap: &mut H, cell: u32) -> Result<Units, NoMemory>
     requires { cell < count (H.seen heap.old) }
     ensures more { count (H.seen heap.old) ≤ count (H.seen heap.new) }
+    ensures grows { OnOk result (Grows (H.seen heap.old).names (H.seen heap.new).names) }
     ensures told { IfOk result (λ text. (nu : Naming) → Fits nu (H.seen heap.new).names → text ≡ told.error_text (told.found_on ((H.seen heap.old).first nu) (nu cell) (codes "name")) (told.found_on ((H.seen heap.old).first nu) (nu cell) (codes "message"))) }
 {
     let key = name_key(alloc)?;
@@ -95,6 +96,7 @@ fn object_text<H: Heap>(alloc: Global, heap: &mut H, cell: u32) -> Result<Units,
 pub fn uncaught_text<H: Heap>(alloc: Global, heap: &mut H, value: &Value) -> Result<Units, NoMemory>
     requires { needs value.now ≤ count (H.seen heap.old) }
     ensures more { count (H.seen heap.old) ≤ count (H.seen heap.new) }
+    ensures grows { OnOk result (Grows (H.seen heap.old).names (H.seen heap.new).names) }
     ensures told { IfOk result (λ text. (nu : Naming) → Fits nu (H.seen heap.new).names → text ≡ told.uncaught_text (val_in nu value.now) ((H.seen heap.old).first nu)) }
 {
     match value {
