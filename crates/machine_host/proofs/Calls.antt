@@ -64,23 +64,27 @@ module _ {A : Type 0} (f : Naming → Step A) (g : Naming → Small A) (asks : (
       → ((nu : Naming) → Fits nu n.heap.names → (E : World) → Suits E n → Clear nu m → (k : A → St → Rest → Res) →
       run_steps (g nu) E m.trace m.heap.scope.path m.heap.scope.branch m.heap.scope.body k (m.heap.first nu) (rest_of m) ≡ add added (k (a nu) (n.heap.first nu) (rest_of n)))
       → Gives f a m n
-  gives_at m n a added same within made dealt moves clear d = record { goes = λ go. record { goes = λ said last r. record {
-    same = same_trans same r.same;
-    within = λ nu z. within_trans r.same within (r.within nu z);
-    added = added ++ r.added;
-    made = r.made ∙ ap (λ l. l ++ r.added) made ∙ append_assoc m.made added r.added;
-    dealt = dealt_twice added r.added dealt moves r.dealt;
-    moved = λ nu z. moves_twice added r.added moves (r.moved nu z);
-    shown = r.shown;
-    ran = λ nu fits E s bound l c.
-        let fb = fits_before r.same.grows fits in
-        let sb = suits_before r.same r.added r.made s in
-        let low = within.falls in
-        comes_after added (λ k. (asks nu).runs (place E bound m) (go nu) k (m.heap.first nu) (rest_of m) ∙ d nu fb E sb c (λ b τ x. run_at (place E bound m) (go nu b) k τ x))
-        (subst (λ p. Comes p (go nu (a nu)) (n.heap.first nu) (rest_of n) r.added (next_of E (draws_in last.made) last.unmade) (said nu) (last.heap.first nu) (rest_of last))
+  gives_at m n a added same within made dealt moves clear d = record {
+    goes = λ go. record {
+      goes = λ said last r. record {
+        same = same_trans same r.same;
+        within = λ nu z. within_trans r.same within (r.within nu z);
+        added = added ++ r.added;
+        made = r.made ∙ ap (λ l. l ++ r.added) made ∙ append_assoc m.made added r.added;
+        dealt = dealt_twice added r.added dealt moves r.dealt;
+        moved = λ nu z. moves_twice added r.added moves (r.moved nu z);
+        shown = r.shown;
+        ran = λ nu fits E s bound l c.
+            let fb = fits_before r.same.grows fits in
+            let sb = suits_before r.same r.added r.made s in
+            let low = within.falls in
+            comes_after added (λ k. (asks nu).runs (place E bound m) (go nu) k (m.heap.first nu) (rest_of m) ∙ d nu fb E sb c (λ b τ x. run_at (place E bound m) (go nu b) k τ x))
+            (subst (λ p. Comes p (go nu (a nu)) (n.heap.first nu) (rest_of n) r.added (next_of E (draws_in last.made) last.unmade) (said nu) (last.heap.first nu) (rest_of last))
             (place_after same within)
             (r.ran nu fits E s bound (omega (arith, low, l)) (clear nu fb c)));
-  } } }
+      };
+    };
+  }
 
 -- a step that ends the run, where the world and what was made are known of
 module _ {A : Type 0} (f : Naming → Step A) (g : Naming → Small A) (asks : (nu : Naming) → Asks (f nu) (g nu)) where
@@ -130,11 +134,11 @@ module _ {A : Type 0} (f : Naming → Step A) (g : Naming → Small A) (asks : (
 
 -- ---- what is known at the path of a call
 
-what_none : (o : Option Rec) → what_of o ≡ None → o ≡ None
+pub what_none : (o : Option Rec) → what_of o ≡ None → o ≡ None
 what_none (Some (rec p x)) e = let z : ⊥ = cc in absurd z
 what_none None e = refl
 
-what_some : (o : Option Rec) (x : Record) → what_of o ≡ Some x → (p : Path) × (o ≡ Some (rec p x))
+pub what_some : (o : Option Rec) (x : Record) → what_of o ≡ Some x → (p : Path) × (o ≡ Some (rec p x))
 what_some (Some (rec p y)) x e = (p, ap (λ o. some_at p o) e)
   where
     some_at : Path → Option Record → Option Rec
@@ -269,8 +273,8 @@ module _ (q : Question) (f : Step (AnsOf q)) (is : Asks f (steps.ask q give)) (s
         left = n.heap.left;
         like = same_first nu fits;
         is = λ k.
-        ask_run nu E k None false None (what_none (find (at_call nu) m.trace) (what_there nu c ∙ unfound)) (below_there nu c ∙ unbelow) (ap (λ z. fresh q E (draws_in m.made) z) (sym (x.path nu)) ∙ d E su)
-        ∙ (λ i. res (out i) (next_call (m.heap.first nu)) (noted_is q n.heap.left x.left i));
+            ask_run nu E k None false None (what_none (find (at_call nu) m.trace) (what_there nu c ∙ unfound)) (below_there nu c ∙ unbelow) (ap (λ z. fresh q E (draws_in m.made) z) (sym (x.path nu)) ∙ d E su)
+            ∙ (λ i. res (out i) (next_call (m.heap.first nu)) (noted_is q n.heap.left x.left i));
       })
 
   noted_waits : (z : Question) → (noted z (rest_of (record m { heap = n.heap }))).waits ≡ (noted z (rest_of m)).waits

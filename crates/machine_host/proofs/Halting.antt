@@ -117,7 +117,7 @@ forks_refused m e = halts_leave (λ nu. ask MayFork) (λ nu. steps_of MayFork) (
       left = m.heap.left;
       like = record { text = refl; verdict = refl; gone = refl };
       is = λ k. free_runs forks_here give m.heap.scope.path m.heap.scope.branch m.heap.scope.body (m.heap.first nu) refl E m.trace k (rest_of m)
-      ∙ ap (λ b. on_act (act_forks b (m.heap.first nu)) (m.heap.first nu) (rest_of m) (λ a τ x. run_steps (give a) E m.trace m.heap.scope.path m.heap.scope.branch m.heap.scope.body k τ x)) e;
+          ∙ ap (λ b. on_act (act_forks b (m.heap.first nu)) (m.heap.first nu) (rest_of m) (λ a τ x. run_steps (give a) E m.trace m.heap.scope.path m.heap.scope.branch m.heap.scope.body k τ x)) e;
     })
 
 pub forks_allowed : (m : Moment) → m.heap.scope.body ≡ false → Gives (λ nu. ask MayFork) (λ nu. tt) m m
@@ -204,8 +204,12 @@ module _ (m : Moment) (t : Seen) (here : m.heap.scope.body ≡ false) where
       (λ nu fits E. let q = d nu fits E in record { at = m.heap.first nu; left = m.heap.left; like = same_like q.0; is = q.2 })
 
   pub join_waits : (o : Option Value) → o ≡ None → Joins true (Ok o) m.heap t → Leaves (λ nu. ask (Join true)) (exit.Halted halt.Waits) m (with_heap m t)
-  join_waits o e k = let j = subst (λ (o : Option Value). Joins true (Ok o) m.heap t) e k in join_stops halt.Waits waits refl j.stays (λ nu fits E. let q = j.did nu fits in (q.1.0, q.1.1, λ k.
-      join_is m nu E k false true (too_many true (m.heap.first nu).vals) here q.0 refl ∙ ap (λ w. res waits (m.heap.first nu) (record (rest_of m) { waits = w })) (append-nil m.waits)))
+  join_waits o e k = let j = subst (λ (o : Option Value). Joins true (Ok o) m.heap t) e k in join_stops halt.Waits waits refl j.stays (λ nu fits E. let q = j.did nu fits in (
+    q.1.0,
+    q.1.1,
+    λ k.
+        join_is m nu E k false true (too_many true (m.heap.first nu).vals) here q.0 refl ∙ ap (λ w. res waits (m.heap.first nu) (record (rest_of m) { waits = w })) (append-nil m.waits),
+  ))
 
   join_long : Joins true (Err heap.TooLong) m.heap t → Leaves (λ nu. ask (Join true)) (exit_at heap.TooLong) m (with_heap m t)
   join_long j = join_stops (halt.Refused refusal.TooLong) (ended (bar model.TooLong)) refl j.stays (λ nu fits E. let q = j.did nu fits in (q.2.0, q.2.1, λ k. join_is m nu E k false false true here q.0 q.1))

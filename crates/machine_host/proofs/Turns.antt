@@ -194,8 +194,8 @@ module _ {B : Type 0} {f : Naming → Prog} {m : Moment} {come : Naming → Come
         let h = holds_of nu (goes (a nu) (t.first nu) t.left) e in
         begins_comes (record { same = λ k. is_told nu E bound k (goes (a nu) (t.first nu) t.left) e tt ∙ ap (λ (q : St → Rest → Res). q (t.first nu) (rest_of (with_heap m t))) (on nu (place E bound m) k) })
         (subst (λ p. Outcomes p (g nu) (t.first nu) (rest_of (with_heap m t)) r.added (next_of E (draws_in last.made) last.unmade) (said nu) (last.heap.first nu) (rest_of last))
-            (place_after (same_heap m t stays) (within_heap m t stays low))
-            (r.ran nu fits E s bound (omega (arith, low, l)) (clear_heap m t stays nu h.1 c)));
+        (place_after (same_heap m t stays) (within_heap m t stays low))
+        (r.ran nu fits E s bound (omega (arith, low, l)) (clear_heap m t stays nu h.1 c)));
   }
     where
       low : t.left ≤ m.heap.left

@@ -18,8 +18,8 @@ ghost use Rattle.machine_host.specs.Runs.{heap_of, moment_of, IsSound};
 use crate::kept::{
     diverged_below, draw_kept, post_below, post_kept, reply_below, reply_kept, token_at,
 };
-use crate::stops::copy_stop;
 use crate::scopes::note;
+use crate::stops::copy_stop;
 use crate::{AskedRun, Question, Unmade, Wait};
 use ask_model::{AskStop, Asker, Called, Known};
 use run_host::{Exit, Halt};
@@ -106,9 +106,7 @@ impl<A: Asker> AskedRun<A> {
         };
         match self.asker.post(&path, &token, text) {
             Ok(()) => Ok(token),
-            Err(stop) => {
-                Err(self.refuse(stop, Unmade::Asking(path, Question::Post(copy))))
-            }
+            Err(stop) => { Err(self.refuse(stop, Unmade::Asking(path, Question::Post(copy)))) }
         }
     }
 

@@ -14,10 +14,10 @@ use std::alloc::Global;
 use turk_base::{Name, NoMemory, Path, Record, Units, Whole, token};
 
 /// What is told of a record in the way of a call.
-fn kept_of(alloc: Global, record: &Record) -> Result<Kept, NoMemory>
-    ensures { IfOk result (λ kept. KeptOf kept (found_kept record.now)) }
+fn kept_of(alloc: Global, what: &Record) -> Result<Kept, NoMemory>
+    ensures { IfOk result (λ kept. KeptOf kept (found_kept what.now)) }
 {
-    match record {
+    match what {
         Record::Post(text) => Ok(Kept::Post(text.copy(alloc)?)),
         Record::Reply(token, _) => Ok(Kept::Reply(token.copy(alloc)?)),
         Record::Draw(bound, _) => Ok(Kept::Draw(*bound)),
@@ -34,11 +34,11 @@ fn diverged(path: Path, kept: Kept, called: Called) -> Exit
 }
 
 /// The exit where a record stands in the way of a call.
-pub fn diverged_from(alloc: Global, path: Path, record: &Record, called: Called) -> Exit
-    ensures told { (result ≡ Exit.Stopped AskStop.Memory) ⊎ Tells result (diverges (path_in path) (found_kept record.now) (called_in called)) }
+pub fn diverged_from(alloc: Global, path: Path, what: &Record, called: Called) -> Exit
+    ensures told { (result ≡ Exit.Stopped AskStop.Memory) ⊎ Tells result (diverges (path_in path) (found_kept what.now) (called_in called)) }
     ensures thrown { exit_needs result ≡ 0 }
 {
-    match kept_of(alloc, record) {
+    match kept_of(alloc, what) {
         Ok(kept) => diverged(path, kept, called),
         Err(_) => Exit::Stopped(AskStop::Memory),
     }
@@ -67,20 +67,20 @@ pub fn token_at(alloc: Global, session: &Name, path: &Path) -> Result<Units, Exi
 pub fn post_kept(
     alloc: Global,
     session: &Name,
-    record: &Record,
+    what: &Record,
     path: Path,
     text: &Units,
 ) -> Result<Units, Exit>
-    ensures gives { KeptGives (posts text.now) session.now (path_in path) record.now result }
+    ensures gives { KeptGives (posts text.now) session.now (path_in path) what.now result }
     ensures thrown { IfErr result (λ x. exit_needs x ≡ 0) }
 {
-    if let Record::Post(kept) = record {
+    if let Record::Post(kept) = what {
         if kept == text {
             return token_at(alloc, session, &path);
         }
     }
     match text.copy(alloc) {
-        Ok(text) => Err(diverged_from(alloc, path, record, Called::Post(text))),
+        Ok(text) => Err(diverged_from(alloc, path, what, Called::Post(text))),
         Err(_) => Err(Exit::Stopped(AskStop::Memory)),
     }
 }
@@ -89,14 +89,14 @@ pub fn post_kept(
 pub fn reply_kept(
     alloc: Global,
     session: &Name,
-    record: &Record,
+    what: &Record,
     path: Path,
     task: &Units,
 ) -> Result<Units, Exit>
-    ensures gives { KeptGives (replies task.now) session.now (path_in path) record.now result }
+    ensures gives { KeptGives (replies task.now) session.now (path_in path) what.now result }
     ensures thrown { IfErr result (λ x. exit_needs x ≡ 0) }
 {
-    if let Record::Reply(kept, text) = record {
+    if let Record::Reply(kept, text) = what {
         if kept == task {
             return match text.copy(alloc) {
                 Ok(text) => Ok(text),
@@ -105,7 +105,7 @@ pub fn reply_kept(
         }
     }
     match task.copy(alloc) {
-        Ok(task) => Err(diverged_from(alloc, path, record, Called::Reply(task))),
+        Ok(task) => Err(diverged_from(alloc, path, what, Called::Reply(task))),
         Err(_) => Err(Exit::Stopped(AskStop::Memory)),
     }
 }
@@ -114,19 +114,19 @@ pub fn reply_kept(
 pub fn draw_kept(
     alloc: Global,
     session: &Name,
-    record: &Record,
+    what: &Record,
     path: Path,
     bound: Whole,
 ) -> Result<Whole, Exit>
-    ensures gives { KeptGives (draws bound) session.now (path_in path) record.now result }
+    ensures gives { KeptGives (draws bound) session.now (path_in path) what.now result }
     ensures thrown { IfErr result (λ x. exit_needs x ≡ 0) }
 {
-    if let Record::Draw(kept, value) = record {
+    if let Record::Draw(kept, value) = what {
         if *kept == bound {
             return Ok(*value);
         }
     }
-    Err(diverged_from(alloc, path, record, Called::Random(bound)))
+    Err(diverged_from(alloc, path, what, Called::Random(bound)))
 }
 
 /// The exit of a post where records stand below its path.

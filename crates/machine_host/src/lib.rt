@@ -9,6 +9,7 @@ use std::alloc::Global;
 use turk_base::{Data, Name, Path, Units, Whole};
 
 mod asks;
+mod begin;
 mod exits;
 mod guarded;
 mod kept;

@@ -180,12 +180,7 @@ impl<A: Asker> AskedRun<A> {
 }
 
 // A name of a frame is set where the frame has it, else it is declared: the meaning is the same.
-fn set_name(
-    machine: &mut Machine,
-    frame: u32,
-    name: &Units,
-    value: Value,
-) -> Result<(), OpStop>
+fn set_name(machine: &mut Machine, frame: u32, name: &Units, value: Value) -> Result<(), OpStop>
     requires frame { frame < count machine.old }
     requires value { needs value ≤ count machine.old }
     ensures did { Does (λ nu. WriteName (nu frame) name.now (val_in nu value)) (λ nu. told (λ u. u) result) (seen_of machine.old) (seen_of machine.new) }
