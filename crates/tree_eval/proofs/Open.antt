@@ -1,6 +1,6 @@
 -- A node pays first, and is refused where too many are open.
 use Rattle.std.specs.Prelude.{Result, Ok, Err, IfOk, IfErr, OnOk}
-use Rattle.std.proofs.Common.{◌≡◌, ◌≢◌, ◌<◌, ◌≤◌, subst, ◌+◌, ◌-◌, ℕ, zero, suc, List, refl, arith}
+use Rattle.std.proofs.Common.{◌≡◌, ◌≢◌, ◌<◌, ◌≤◌, subst, ◌-◌, ℕ, zero, suc, List, refl, arith}
 use Rattle.js_tree.specs.declared.Expr.{Expr}
 use Rattle.js_tree.specs.declared.Stmt.{Stmt}
 use Rattle.js_tree.specs.Calls.{Code}

@@ -8,7 +8,6 @@ use Rattle.std.proofs.Common.{arith, subst, sym, ◌-◌, ◌<◌}
 use Rattle.js_tree.specs.Rows.{expr_row, expr_to, stmt_row, stmt_to}
 use Rattle.js_tree.specs.Trees.{expr_level, stmt_level}
 use Rattle.tree_eval.proofs.Open.{expr_open, expr_pays, flow_paid, level_back, flowed, stmt_open, stmt_pays, value_paid, valued}
-use Rattle.tree_rows.specs.Nests.{Nests}
 use Rattle.tree_rows.specs.Codes.{table_in}
 use Rattle.run_host.specs.declared.Exit.TheVariants as exit
 use Rattle.run_host.specs.declared.Halt.TheVariants as halt

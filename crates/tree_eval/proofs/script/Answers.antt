@@ -8,7 +8,6 @@ use Rattle.run_host.specs.Told.{here_in}
 use Rattle.std.proofs.Common.{ap, sym, ◌∙◌, None}
 use Rattle.std.specs.Prelude.{[]}
 use Rattle.tree_eval.proofs.Open.{valued, flowed}
-use Rattle.tree_rows.specs.Nests.{Nests}
 use Rattle.tree_rows.specs.Codes.{table_in}
 use Rattle.turk_base.specs.Names.{Name}
 use Rattle.turk_base.specs.Prog.{Prog}
