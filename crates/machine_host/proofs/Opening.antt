@@ -44,6 +44,7 @@ use Rattle.run_host.proofs.Moments.{same_refl, within_refl}
 use Rattle.machine_host.specs.Asking.{Indexed, Loses, Tells}
 use Rattle.machine_host.specs.Sound.{KnowsBuiltIns, BacksKnow, IsGood, AreOpen}
 use Rattle.meaning_laws.specs.Tied.{what_of}
+use Rattle.machine_host.proofs.Turns.{moves_same}
 use Rattle.machine_host.proofs.Calls.{what_none, what_some, found_is}
 
 -- ---- what holds where a scope was entered
@@ -83,14 +84,16 @@ open_entered es n s t p branch a e is =
 -- ---- programs that end the run
 
 module _ (f : Naming → Prog) where
-  pub program_halts : (m n : Moment) (h : Halt) (out : Out) → shown.IsOut h out → Same m n → Within m n → n.made ≡ m.made
+  pub program_halts : (m n : Moment) (h : Halt) (out : Out) → shown.IsOut h out → Same m n → Within m n → n.made ≡ m.made → n.words ≡ m.words
       → ((nu : Naming) → Fits nu n.heap.names → (E : World) (bound : ℕ) → Suits E n → Clear nu m → (at : St) × (left : ℕ) × Like at (n.heap.first nu) × ((k : Outcome → St → Rest → Res) → run_at (place E bound m) (f nu) k (m.heap.first nu) (rest_of m) ≡ res out at (record (rest_of n) { left = left })))
       → Runs f (λ nu. shown.Halts h) m n
-  program_halts m n h out is same within made d = record {
+  program_halts m n h out is same within made drawn d = record {
     same = same;
     within = λ nu z. within;
     added = [];
     made = made ∙ sym (append-nil m.made);
+    dealt = tt;
+    moved = λ nu z. moves_same drawn;
     shown = λ nu. tt;
     ran = λ nu fits E s bound l c. let q = d nu fits E bound s c in halts (record { out = out; is = is; at = q.0; left = q.1; like = q.2; stops = record { holds = q.3 } });
   }
@@ -101,6 +104,8 @@ module _ (f : Naming → Prog) where
     within = λ nu z. absurd z;
     added = [];
     made = l.made ∙ sym (append-nil m.made);
+    dealt = tt;
+    moved = λ nu z. absurd z;
     shown = λ nu. tt;
     ran = λ nu fits E s bound lo c. fails (record { holds = λ k. front _ refl });
   })
@@ -109,7 +114,7 @@ module _ (f : Naming → Prog) where
 
 pub fork_barred : (g : Naming → Prog) (m : Moment) → m.heap.scope.body ≡ true → Runs (λ nu. Fork (g nu)) (λ nu. shown.Halts (halt.Refused refusal.ForkInOnce)) m m
 unfolding run
-fork_barred g m e = program_halts (λ nu. Fork (g nu)) m m (halt.Refused refusal.ForkInOnce) (ended (bar model.ForkInOnce)) refl same_refl within_refl refl
+fork_barred g m e = program_halts (λ nu. Fork (g nu)) m m (halt.Refused refusal.ForkInOnce) (ended (bar model.ForkInOnce)) refl same_refl within_refl refl refl
     (λ nu fits E bound s c. (
       m.heap.first nu,
       m.heap.left,
@@ -131,6 +136,7 @@ module _ (s : Asked) (m n : Moment) (trace : m.trace ≡ records_of s.trace) (ma
       (program_halts (λ nu. Fork (g nu)) m counted_fork (halt.Diverges t.0) (halted (diverged (diverges (path_in p) (found_kept r) called_fork))) (diverges (path_in p) (found_kept r) called_fork, t.2, refl)
       (record { session = refl; trace = refl; pairs = refl; grows = λ i name e. ap (λ l. slice_get l i) x.names ∙ e })
       (record { scope = x.scope; outer = x.outer; below = λ i name e l. let h = slice_get_within n.heap.names i name e in absurd (let q = ap length x.names in omega (arith, h, q, l)); falls = let h = x.left in omega (arith, h) })
+      refl
       refl
       (λ nu fits E bound su c.
       let P = sub (m.heap.first nu).calls m.heap.scope.path in
@@ -176,6 +182,7 @@ module _ (s : Asked) (m n : Moment) (trace : m.trace ≡ records_of s.trace) (ma
       trace = ap (λ (q : Moment). q.trace) is;
       pairs = ap (λ (q : Moment). q.pairs) is;
       made = ap (λ (q : Moment). q.made) is;
+      words = ap (λ (q : Moment). q.words) is;
       waits = ap (λ (q : Moment). q.waits) is;
       outer = e.outer ∙ (λ i. x.scope i ∷ x.outer i);
       first = λ nu fits. e.first nu ∙ ap enter (x.first nu (subst (Fits nu) (sym x.names) fits));
@@ -198,37 +205,37 @@ not_here es p n = by (told.at es p) refl
     by None e = e
     by (Some r) e = absurd (n (ap (λ o. known_by o (told.below es p)) (sym e)))
 
-module _ {X : Type 0} (seen : X → Asked) (words : X → ℕ → ℕ) (old mid : AskedRun X) (known : X) (p : List ℕ) (x : Indexed p (moment_of seen old) (moment_of seen mid)) (asker : mid.asker ≡ old.asker) (notes : mid.notes ≡ old.notes) (asked : seen known ≡ asked_at (seen mid.asker) p)
+module _ {X : Type 0} (seen : X → Asked) (words : X → ℕ → ℕ) (old mid : AskedRun X) (known : X) (p : List ℕ) (x : Indexed p (moment_of seen words old) (moment_of seen words mid)) (asker : mid.asker ≡ old.asker) (notes : mid.notes ≡ old.notes) (asked : seen known ≡ asked_at (seen mid.asker) p) (drawn : (k : ℕ) → words known k ≡ words mid.asker k)
     (here : (heap_of old).scope.body ≡ false) (forks : ℕ) (more : forks ≡ mid.notes.forks + 1) where
   abbrev fork_notes : Notes
   fork_notes = record (notes_of mid.notes) { forks = forks }
 
   abbrev fork_now : Moment
-  fork_now = moment_at (heap_of mid) (seen known) fork_notes
+  fork_now = moment_at (heap_of mid) (seen known) (words known) fork_notes
 
   abbrev fork_counted : Moment
-  fork_counted = record (moment_of seen old) { heap = heap_of mid; forks = suc old.notes.forks }
+  fork_counted = record (moment_of seen words old) { heap = heap_of mid; forks = suc old.notes.forks }
 
   fork_is : fork_now ≡ fork_counted
   fork_is =
       let k : forks ≡ suc old.notes.forks = (let a = ap (λ (n : Kept). n.forks) notes in omega (arith, a, more)) in
-      ap (λ a. moment_at (heap_of mid) a fork_notes) asked ∙ ap (λ (q : Moment). record q { forks = forks }) x.rest ∙ ap (λ j. record (moment_of seen old) { heap = heap_of mid; forks = j }) k
+      (λ i. moment_at (heap_of mid) (asked i) (λ k. drawn k i) fork_notes) ∙ ap (λ (q : Moment). record q { forks = forks }) x.rest ∙ ap (λ j. record (moment_of seen words old) { heap = heap_of mid; forks = j }) k
 
-  pub fork_found : (r : Record) → Some r ≡ record_in (known_to (seen known)) (seen known).asked → (y : Exit) → (y ≡ exit.Stopped stop.Memory) ⊎ Tells y (diverges (path_in p) (found_kept r) called_fork) → (g : Naming → Prog) → Runs (λ nu. Fork (g nu)) (λ nu. told_exit nu y) (moment_of seen old) fork_now
-  fork_found r at y t g = fork_out (seen mid.asker) (moment_of seen old) (moment_of seen mid) (λ i. records_of (seen (sym asker i)).trace) (λ i. records_of (seen (sym asker i)).made) p x here fork_now fork_is g r
+  pub fork_found : (r : Record) → Some r ≡ record_in (known_to (seen known)) (seen known).asked → (y : Exit) → (y ≡ exit.Stopped stop.Memory) ⊎ Tells y (diverges (path_in p) (found_kept r) called_fork) → (g : Naming → Prog) → Runs (λ nu. Fork (g nu)) (λ nu. told_exit nu y) (moment_of seen words old) fork_now
+  fork_found r at y t g = fork_out (seen mid.asker) (moment_of seen words old) (moment_of seen words mid) (λ i. records_of (seen (sym asker i)).trace) (λ i. records_of (seen (sym asker i)).made) p x here fork_now fork_is g r
       (sym (at ∙ ap (λ s. record_in (known_to s) s.asked) asked)) y t
 
   module _ (new : AskedRun X) (was : new.asker ≡ known) (kept : notes_of new.notes ≡ fork_notes) (known_told : IsTold (heap_of old)) (none : told.at (known_to (seen mid.asker)) p ≡ None) where
-    new_is : moment_of seen new ≡ record fork_counted { heap = heap_of new }
-    new_is = (λ i. moment_at (heap_of new) (seen (was i)) (kept i)) ∙ ap (λ (q : Moment). record q { heap = heap_of new }) fork_is
+    new_is : moment_of seen words new ≡ record fork_counted { heap = heap_of new }
+    new_is = (λ i. moment_at (heap_of new) (seen (was i)) (words (was i)) (kept i)) ∙ ap (λ (q : Moment). record q { heap = heap_of new }) fork_is
 
     pub fork_entered : (r : Result (Unit {0}) Exit) → OnOk r (Enters (path_in p) true (heap_of mid) (heap_of new)) → OnErr r (heap_of new ≡ heap_of mid) → IfErr r (λ y. y ≡ exit.Stopped stop.Memory)
-        → OnOk r (OpensFork (moment_of seen old) (moment_of seen new)) × IfErr r (λ y. (g : Naming → Prog) → Runs (λ nu. Fork (g nu)) (λ nu. told_exit nu y) (moment_of seen old) (moment_of seen new)) × IfErr r (λ y. exit_needs y ≡ 0)
+        → OnOk r (OpensFork (moment_of seen words old) (moment_of seen words new)) × IfErr r (λ y. (g : Naming → Prog) → Runs (λ nu. Fork (g nu)) (λ nu. told_exit nu y) (moment_of seen words old) (moment_of seen words new)) × IfErr r (λ y. exit_needs y ≡ 0)
     fork_entered (Ok u) e same lost =
-        (fork_opened (seen mid.asker) (moment_of seen old) (moment_of seen mid) (λ i. records_of (seen (sym asker i)).trace) (λ i. records_of (seen (sym asker i)).made) p x here (moment_of seen new) known_told none e new_is, tt, tt)
+        (fork_opened (seen mid.asker) (moment_of seen words old) (moment_of seen words mid) (λ i. records_of (seen (sym asker i)).trace) (λ i. records_of (seen (sym asker i)).made) p x here (moment_of seen words new) known_told none e new_is, tt, tt)
     fork_entered (Err y) e same lost = (
       tt,
-      (λ g. fork_lost_at (seen mid.asker) (moment_of seen old) (moment_of seen mid) (λ i. records_of (seen (sym asker i)).trace) (λ i. records_of (seen (sym asker i)).made) p x here (moment_of seen new)
+      (λ g. fork_lost_at (seen mid.asker) (moment_of seen words old) (moment_of seen words mid) (λ i. records_of (seen (sym asker i)).trace) (λ i. records_of (seen (sym asker i)).made) p x here (moment_of seen words new)
           (new_is ∙ ap (λ s. record fork_counted { heap = s }) same) g y lost),
       subst (λ y. exit_needs y ≡ 0) (sym lost) refl,
     )

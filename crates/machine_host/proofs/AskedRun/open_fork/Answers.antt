@@ -20,12 +20,12 @@ returns-in_err-path-clause-out g c = fork_exit c.from_residual.result c.in_err-p
 
 pub returns-in-Some-clause-out : goal.returns-in-Some-clause-out
 returns-in-Some-clause-out g c f =
-    fork_found g.A.Asker.seen c.args.self.now c.take_index.new.self c.known.new.self c.in_ok-path.path c.in_ok-path.ensures.taken c.in_ok-path.ensures.asker c.in_ok-path.ensures.notes c.in-Here.ensures.asked (sym c.in_once.ensures ∙ c.if-in_once.false) _ refl
+    fork_found g.A.Asker.seen g.A.Asker.words c.args.self.now c.take_index.new.self c.known.new.self c.in_ok-path.path c.in_ok-path.ensures.taken c.in_ok-path.ensures.asker c.in_ok-path.ensures.notes c.in-Here.ensures.asked c.in-Here.ensures.words (sym c.in_once.ensures ∙ c.if-in_once.false) _ refl
     c.in-Some.record.now c.in-Some.ensures c.diverged_from.result c.diverged_from.ensures.told f
 
 pub returns-in_default : goal.returns-in_default
 returns-in_default g c =
-    let e = fork_entered g.A.Asker.seen c.args.self.now c.take_index.new.self c.known.new.self c.in_ok-path.path c.in_ok-path.ensures.taken c.in_ok-path.ensures.asker c.in_ok-path.ensures.notes c.known.ensures.asked (sym c.in_once.ensures ∙ c.if-in_once.false) _ refl
+    let e = fork_entered g.A.Asker.seen g.A.Asker.words c.args.self.now c.take_index.new.self c.known.new.self c.in_ok-path.path c.in_ok-path.ensures.taken c.in_ok-path.ensures.asker c.in_ok-path.ensures.notes c.known.ensures.asked c.known.ensures.words (sym c.in_once.ensures ∙ c.if-in_once.false) _ refl
     c.enter.new.self c.enter.ensures.asker (ap notes_of c.enter.ensures.notes) c.requires.sound.good.told (not_here (known_to (g.A.Asker.seen c.take_index.new.self.asker)) c.in_ok-path.path (λ e. c.in_default.not-Here (c.known.ensures.known ∙ sym e)))
     c.enter.result c.enter.ensures.ok (err_then c.enter.result (λ e. ap (λ (h : Guarded). seen_of h.machine) e) c.enter.ensures.same) c.enter.ensures.lost in
     record {
