@@ -10,6 +10,7 @@ use value_cells::Value;
 
 mod begin;
 mod branches;
+mod chains;
 mod data;
 mod heap;
 mod looks;

@@ -10,9 +10,11 @@ use turk_base::{Data, Name, Path, Units, Whole};
 
 mod asks;
 mod begin;
+mod chains;
 mod exits;
 mod guarded;
 mod kept;
+mod onces;
 mod opens;
 mod parts;
 mod requests;

@@ -1,22 +1,27 @@
-//! Scopes that are opened for calls of fork.
-ghost use Rattle.std.specs.Prelude.{◌≡◌, ◌≤◌, IfOk, IfErr, OnOk, OnErr};
+//! Scopes that are opened for calls of fork and once.
+ghost use Rattle.std.specs.Prelude.{◌≡◌, ◌≤◌, IfOk, IfErr, OnOk, OnErr, Ok, None};
+ghost use Rattle.std.specs.Option.{IfSome};
 ghost use Rattle.turk_base.specs.Names.{path_in};
-ghost use Rattle.turk_base.specs.Prog.{Prog, Fork};
+ghost use Rattle.turk_base.specs.Values.{Normal};
+ghost use Rattle.turk_base.specs.Prog.{Prog, Once, Fork};
 ghost use Rattle.run_heap.specs.Core.{names_in};
 ghost use Rattle.run_heap.specs.Scopes.{IsReady};
-ghost use Rattle.value_cells.specs.Seen.{Naming};
+ghost use Rattle.value_cells.specs.Needs.{option_needs};
+ghost use Rattle.value_cells.specs.Seen.{Naming, val_in};
 ghost use Rattle.eval_ops.specs.Calls.{Enters};
 ghost use Rattle.run_host.specs.Moment.{cells};
-ghost use Rattle.run_host.specs.Told.{told_exit, exit_needs};
+ghost use Rattle.run_host.specs.Told.{Says, told_exit, exit_needs};
 ghost use Rattle.run_host.specs.Did.{Runs};
-ghost use Rattle.run_host.specs.Scopes.{OpensFork};
+ghost use Rattle.run_host.specs.Scopes.{OpensOnce, OpensFork};
 ghost use Rattle.machine_host.specs.Runs.{heap_of, moment_of, IsSound};
 
 use crate::AskedRun;
 use crate::kept::diverged_from;
+use crate::onces::once_kept;
 use ask_model::{AskStop, Asker, Called, Known};
 use run_host::{Exit, Halt, Refusal};
 use turk_base::Path;
+use value_cells::Value;
 
 impl<A: Asker> AskedRun<A> {
     /// Enters the scope of the call that took its index last: a branch, or a once body.
@@ -68,6 +73,38 @@ impl<A: Asker> AskedRun<A> {
                 None => Err(Exit::Stopped(AskStop::Memory)),
             },
             _ => self.enter(&path, true),
+        }
+    }
+
+    /// Counts a once call. Where its record is there, the answer is the kept value; else the scope of its body was opened, and
+    /// `end_once` closes it.
+    pub fn open_once(&mut self) -> Result<Option<Value>, Exit>
+        requires sound { IsSound A.is_sound A.seen self.old }
+        ensures kept { IfOk result (λ o. IfSome o (λ v. (g : Naming → Prog) → Runs (λ nu. Once (g nu)) (λ nu. Says (Normal (val_in nu v))) (moment_of A.seen A.words self.old) (moment_of A.seen A.words self.new))) }
+        ensures opened { OnOk result ((result ≡ Ok None) → OpensOnce (moment_of A.seen A.words self.old) (moment_of A.seen A.words self.new)) }
+        ensures out { IfErr result (λ x. (g : Naming → Prog) → Runs (λ nu. Once (g nu)) (λ nu. told_exit nu x) (moment_of A.seen A.words self.old) (moment_of A.seen A.words self.new)) }
+        ensures more { cells (moment_of A.seen A.words self.old) ≤ cells (moment_of A.seen A.words self.new) }
+        ensures exists { IfOk result (λ o. option_needs o ≤ cells (moment_of A.seen A.words self.new)) }
+        ensures thrown { IfErr result (λ x. exit_needs x ≡ 0) }
+        ensures sound { IsSound A.is_sound A.seen self.new }
+    {
+        let path = self.count_once()?;
+        match self.asker.known(&path) {
+            Known::Here => match self.asker.kept() {
+                Some(record) => {
+                    let answer = once_kept(self.alloc, &mut self.guarded.machine, path, record);
+                    self.guarded.machine.known();
+                    match answer {
+                        Ok(value) => Ok(Some(value)),
+                        Err(exit) => Err(exit),
+                    }
+                }
+                None => Err(Exit::Stopped(AskStop::Memory)),
+            },
+            _ => match self.enter(&path, false) {
+                Ok(()) => Ok(None),
+                Err(exit) => Err(exit),
+            },
         }
     }
 }
