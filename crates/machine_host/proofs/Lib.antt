@@ -2,6 +2,7 @@ pub mod Answered
 pub mod Asked
 pub mod Bridge
 pub mod Calls
+pub mod Counted
 pub mod Fresh
 pub mod Halting
 pub mod Indexes
