@@ -1,15 +1,14 @@
 -- The chains of prototypes.
-use Rattle.std.specs.Prelude.{Bool, true, false}
-use Rattle.std.proofs.Common.{◌≡◌, refl, sym, ap, subst, ◌∙◌, ℕ, ◌<◌, List, [], ◌∷◌, length, map, arith}
+use Rattle.std.specs.Prelude.{Bool, true}
+use Rattle.std.proofs.Common.{◌≡◌, refl, sym, ap, subst, ℕ, ◌<◌, List, ◌∷◌, length, map}
 use Rattle.turk_base.specs.Names.{name_eq, pick}
 use Rattle.turk_base.specs.Prog.{Inherits}
 use Rattle.turk_base.specs.Steps.{stands_in, give, steps_of}
 use Rattle.run_heap.proofs.Watches.{pick_no}
 use Rattle.value_cells.specs.Held.{IsWhole, kinds_of}
-use Rattle.value_cells.specs.Seen.{Naming, Fits}
+use Rattle.value_cells.specs.Seen.{Naming}
 use Rattle.value_cells.specs.Does.{Does, Says, Did, comes_from}
 use Rattle.slot_watch.specs.Named.{TellsApart}
-use Rattle.run_heap.specs.Core.{names_in}
 use Rattle.run_heap.specs.Placed.{chain_of}
 use Rattle.run_heap.proofs.Chains.{works_known}
 use Rattle.run_heap.proofs.Tables.{tells, kind_there}

@@ -1,7 +1,7 @@
 -- Calls of once: counted, and what their records give.
-use Rattle.std.specs.Prelude.{Bool, true, false, List, Option, Some, None, Result, Ok, Err, OnOk, OnErr, IfErr, IfOk, length, slice_get}
+use Rattle.std.specs.Prelude.{Bool, true, false, List, Option, Some, None, Result, Ok, Err, IfErr, IfOk, length, slice_get}
 use Rattle.std.specs.List.{AllByRecursion}
-use Rattle.std.proofs.Common.{◌≡◌, IsErrAnd, cond, ◌<◌, ◌≤◌, ℕ, suc, refl, sym, ap, subst, ◌∙◌, arith, [], ◌∷◌, append-nil, ◌⊎◌, inl, inr}
+use Rattle.std.proofs.Common.{◌≡◌, IsErrAnd, cond, ◌≤◌, ℕ, refl, sym, ap, subst, ◌∙◌, arith, [], ◌∷◌, append-nil, ◌⊎◌, inl, inr}
 use Rattle.std.proofs.lemmas.Option.{slice_get_within}
 use Rattle.turk_base.specs.Names.{Path, Name, sub, path_in, In, Under, home}
 use Rattle.turk_base.specs.declared.Record.{Record}
@@ -17,11 +17,9 @@ use Rattle.turk_base.specs.Steps.{put_data}
 use Rattle.turk_base.specs.Trace as told
 use Rattle.turk_base.specs.Trace.{same_list}
 use Rattle.turk_base.specs.Told.{records_of}
-use Rattle.js_tree.specs.Run.{Out, ended, halted, spent, diverged, bar, Res, res, run, run_steps, End, on_once, once_goes, body_end}
+use Rattle.js_tree.specs.Run.{ended, halted, spent, diverged, bar, Res, res, run, run_steps, End, on_once, once_goes, body_end}
 use Rattle.js_tree.specs.World.{World, Rest, diverges, found_kept, called_once}
 use Rattle.run_laws.proofs.Sequel.{run_at}
-use Rattle.run_laws.proofs.Within.{After}
-use Rattle.run_laws.proofs.Fronts.{front}
 use Rattle.meaning_laws.specs.Tied.{what_of}
 use Rattle.meaning_laws.proofs.Tied.{find_tied}
 use Rattle.record_bytes.specs.Limits.{IsDataWithin, AreItemsWithin, AreFieldsWithin, IsRecordWithin, IsWithin}
@@ -45,15 +43,15 @@ use Rattle.run_host.specs.declared.Exit.TheVariants as exit
 use Rattle.run_host.specs.declared.Halt.TheVariants as halt
 use Rattle.run_host.specs.declared.Refusal.{Refusal}
 use Rattle.run_host.specs.declared.Refusal.TheVariants as refusal
-use Rattle.run_host.specs.Moment.{Moment, cells, rest_of, Suits, Clear, place, Same, Within}
+use Rattle.run_host.specs.Moment.{Moment, rest_of, Clear, place, Same, Within}
 use Rattle.run_host.specs.Told as shown
 use Rattle.run_host.specs.Told.{told_exit, told_value, exit_needs, refusal_in}
-use Rattle.run_host.specs.Ends.{Like, says, halts}
+use Rattle.run_host.specs.Ends.{says, halts}
 use Rattle.run_host.specs.Did.{Runs}
 use Rattle.run_host.specs.Scopes.{called, OpensOnce}
 use Rattle.machine_host.specs.declared.AskedRun.{AskedRun}
 use Rattle.machine_host.specs.Asking.{Indexed, Loses, Tells}
-use Rattle.machine_host.specs.Onces.{CountsOnce, Puts, Differs, OnceGives}
+use Rattle.machine_host.specs.Onces.{CountsOnce, OnceGives}
 use Rattle.turk_base.specs.Errors.{built_in}
 use Rattle.machine_host.specs.Sound.{BacksKnow, IsGood, AreOpen}
 use Rattle.machine_host.specs.Exits.{answer_at}

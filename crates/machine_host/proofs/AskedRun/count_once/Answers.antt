@@ -1,5 +1,3 @@
-use Rattle.std.specs.Prelude.{Result, Ok, Err, IfOk}
-use Rattle.machine_host.specs.Onces.{CountsOnce}
 use Rattle.machine_host.specs.Runs.{moment_of}
 use Rattle.machine_host.proofs.Counted.{if_ok, counted}
 use Rattle.machine_host.proofs.AskedRun.count_once.Goals as goal

@@ -4,7 +4,6 @@ use Rattle.eval_ops.specs.Run.{seen_of}
 use Rattle.ask_model.specs.Asker.{known_to, record_in}
 use Rattle.run_host.specs.Told.{exit_needs}
 use Rattle.machine_host.specs.declared.guarded.Guarded.{Guarded}
-use Rattle.machine_host.specs.Runs.{heap_of, moment_of}
 use Rattle.machine_host.proofs.Opening.{not_here}
 use Rattle.machine_host.proofs.Counted.{found_within, kept_sound, once_found, once_entered, once_not_entered, once_exit}
 use Rattle.machine_host.proofs.AskedRun.open_once.Goals as goal
