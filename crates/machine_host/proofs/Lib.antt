@@ -1,5 +1,6 @@
 pub mod Answered
 pub mod Asked
+pub mod Branched
 pub mod Bridge
 pub mod Calls
 pub mod Fresh
