@@ -10,7 +10,10 @@ use Rattle.turk_base.specs.Values.{Val, Undefined, Outcome, Normal, Throw}
 use Rattle.js_tree.specs.Run.{End, ret, thr, bar, valued, Why, Out, ended, waits, halted, Res, res, add, run, branch_end, after_branch, on_fork, fork_goes, forked, unless_body}
 use Rattle.js_tree.specs.World.{Rest}
 use Rattle.run_laws.proofs.Sequel.{Place, run_at, Ends, Stops}
-use Rattle.run_laws.proofs.Cuts.{Next, in_branch, branch_at, fork_cut}
+use Rattle.run_laws.proofs.Cuts.{Next, unknown, Cuts, in_branch, branch_at, fork_cut}
+use Rattle.run_laws.proofs.Fronts.{front, front_trans}
+use Rattle.run_laws.proofs.Parting.{branch_front}
+use Rattle.run_laws.specs.Stops.{Front}
 use Rattle.ask_model.specs.declared.AskStop.{AskStop}
 use Rattle.run_host.specs.declared.Halt.{Halt}
 use Rattle.run_host.specs.declared.Halt.TheVariants as halt
@@ -151,3 +154,15 @@ module _ (c : Place) (g : Prog) (σ : St) (w : Rest) (here : c.body ≡ false) (
     fork_ends (Halts (halt.Diverges y)) z d = let k = halted_of z in
         halts (record { out = k.out; is = k.is; at = k.at; left = k.left; like = k.like; fuel = k.fuel; stops = subst (λ o. Stops c (Fork g) σ w (add l (res o k.at (record x { left = k.left })))) (sym k.is.2) (halts_stop l k.at (record x { left = k.left }) _ (halted_is (halt.Diverges y) _ k k.is.2)) })
     fork_ends (Fails why) (fails k) d = fails (fork_cut here none k)
+
+    -- whatever comes of it, what the branch made comes first
+    made_first : (r : Res) → branch_at c g σ w ≡ r → Front l r.made → Cuts c (Fork g) σ w l unknown
+    made_first r e f = record {
+      holds = λ k. subst (λ (q : Res). Front l q.made) (sym (fork_run r e (any_gone (sub σ.calls c.scope) r.st.gone) refl k))
+          (front_trans f (branch_front (any_gone (sub σ.calls c.scope) r.st.gone) r.out r (sub σ.calls c.scope) (next_call σ) (fork_goes k)));
+    }
+
+    pub fork_lost : (t : Told) → BranchComes t → GoesOn t → Cuts c (Fork g) σ w l unknown
+    fork_lost (Says o) z d = made_first (add l (branch_end o τ x)) ((ends_of z).holds branch_end) (front _ refl)
+    fork_lost (Halts h) z d = let k = halted_of z in made_first (add l (res k.out k.at (record x { left = k.left }))) (k.stops.holds branch_end) (front _ refl)
+    fork_lost (Fails why) z d = absurd d

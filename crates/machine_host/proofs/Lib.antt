@@ -3,6 +3,7 @@ pub mod Asked
 pub mod Branched
 pub mod Bridge
 pub mod Calls
+pub mod Ending
 pub mod Fresh
 pub mod Halting
 pub mod Indexes

@@ -1,3 +1,4 @@
+use Rattle.machine_host.proofs.Ending.{LeftBack}
 use Rattle.std.proofs.Common.{◌∙◌, refl, ap, map, ◌∷◌, ◌++◌, []}
 use Rattle.turk_base.specs.Names.{path_in}
 use Rattle.turk_base.specs.Values.{crashed}
