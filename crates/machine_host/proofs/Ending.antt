@@ -26,6 +26,7 @@ use Rattle.run_host.specs.Ends.{Comes, says, halts, fails}
 use Rattle.run_host.specs.Did.{Runs}
 use Rattle.run_host.specs.Scopes.{Local, called, Opens, OpensFork}
 use Rattle.run_host.proofs.Moments.{fits_before, there, same_trans, suits_before}
+use Rattle.machine_host.specs.Leaving.{LeftKeep, LeftBack}
 use Rattle.machine_host.proofs.Turns.{naming}
 use Rattle.machine_host.proofs.Branched.{EndsAbsent, EndsRun, fork_absent, fork_joined, fork_threw, fork_refused, fork_ends, fork_lost}
 use native.Mathlib.Nat.{le_refl}
@@ -40,23 +41,6 @@ tail_of (o ∷ os) = os
 
 some_same : {A : Type 0} {x y : A} → Some x ≡ Some y → x ≡ y
 some_same e = cc
-
--- The scope was left, what it did stays, and all but the heap is as before.
-pub record LeftKeep (ended new : Moment) : Type 0 where
-  pub around : ended.heap.outer ≡ new.heap.scope ∷ new.heap.outer
-  pub grows : Grows ended.heap.names new.heap.names
-  pub below : (i : ℕ) (n : Name) → slice_get new.heap.names i ≡ Some n → cells ended ≤ i → Under ended.heap.scope.path (home n)
-  pub left : new.heap.left ≡ ended.heap.left
-  pub rest : new ≡ record ended { heap = new.heap }
-
--- The scope was left, and all that it did is taken back but for the fuel; then the first part of the state was changed.
-pub record LeftBack (f : St → St) (ended new : Moment) : Type 0 where
-  pub mid : Seen
-  pub leaves : LeavesBack ended.heap mid
-  pub changes : Changes (λ nu σ. f σ) mid new.heap
-  pub was : IsTold ended.heap
-  pub is : IsTold mid
-  pub rest : new ≡ record ended { heap = new.heap }
 
 known_called : (b : Bool) (p : Path) (σ : St) → (called b p σ).known ≡ σ.known
 known_called true p σ = refl

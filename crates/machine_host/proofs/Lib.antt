@@ -8,4 +8,5 @@ pub mod Fresh
 pub mod Halting
 pub mod Indexes
 pub mod Opening
+pub mod Leaving
 pub mod Turns

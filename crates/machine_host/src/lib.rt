@@ -10,6 +10,7 @@ use turk_base::{Data, Name, Path, Units, Whole};
 
 mod asks;
 mod begin;
+mod ends;
 mod exits;
 mod guarded;
 mod kept;

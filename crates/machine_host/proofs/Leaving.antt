@@ -1,0 +1,61 @@
+-- What holds where a scope was left.
+use Rattle.std.specs.Prelude.{List, Some, None, IsSome, length, slice_get}
+use Rattle.std.proofs.Common.{◌≡◌, ◌<◌, ◌+◌, ℕ, zero, suc, length-append, refl, sym, ap, subst, ◌∙◌, arith, [], ◌∷◌, ◌++◌}
+use Rattle.std.proofs.lemmas.Option.{slice_get_within}
+use Rattle.turk_base.specs.Names.{Name}
+use Rattle.turk_base.specs.Errors.{built_in}
+use Rattle.turk_base.specs.State.{St}
+use Rattle.value_cells.specs.Seen.{Naming, Seen, Scope}
+use Rattle.eval_ops.specs.Looks.{IsTold}
+use Rattle.eval_ops.specs.Calls.{LeavesBack, LeavesKeep}
+use Rattle.run_host.proofs.Moments.{there}
+use Rattle.machine_host.specs.Sound.{KnowsBuiltIns, BacksKnow, IsGood, AreOpen}
+use Rattle.machine_host.proofs.Turns.{naming}
+
+some_same : {A : Type 0} {x y : A} → Some x ≡ Some y → x ≡ y
+some_same e = cc
+
+last_is : (es : List ℕ) (n : ℕ) → slice_get (es ++ n ∷ []) (length es) ≡ Some n
+last_is [] n = refl
+last_is (x ∷ es) n = last_is es n
+
+still_there : (es : List ℕ) (n i k : ℕ) → slice_get es i ≡ Some k → slice_get (es ++ n ∷ []) i ≡ Some k
+still_there [] n i k e = let z : ⊥ = cc in absurd z
+still_there (x ∷ es) n zero k e = e
+still_there (x ∷ es) n (suc i) k e = still_there es n i k e
+
+-- the newest open scope has the count of those around it
+pub newest : (es all : List ℕ) (n : ℕ) (outer : List Scope) → all ≡ es ++ n ∷ [] → AreOpen all outer → (n ≡ length outer) × (0 < length outer)
+newest es all n outer e a =
+    let q = a.counted (length es) n (ap (λ l. slice_get l (length es)) e ∙ last_is es n) in
+    let m : length all ≡ length outer = a.many in
+    let l : length all ≡ length es + 1 = ap length e ∙ length-append es (n ∷ []) in
+    (omega (arith, q, m, l), omega (arith, m, l))
+
+pub open_left : (es all : List ℕ) (n : ℕ) (outer rest : List Scope) (s : Scope) → all ≡ es ++ n ∷ [] → AreOpen all outer → outer ≡ s ∷ rest → AreOpen es rest
+open_left es all n outer rest s e a is = record {
+  many = (let m : length all ≡ length outer = a.many in let l : length all ≡ length es + 1 = ap length e ∙ length-append es (n ∷ []) in let k : length outer ≡ suc (length rest) = ap length is in omega (arith, m, l, k));
+  counted = λ i k q. a.counted i k (ap (λ l. slice_get l i) e ∙ still_there es n i k q);
+}
+
+pub good_kept : (s t : Seen) → IsGood s → LeavesKeep s t → IsTold t → IsGood t
+good_kept s t g e told = record {
+  told = told;
+  named = λ i l. ap (λ ns. slice_get ns i) e.names ∙ g.named i l;
+  backs = (subst (BacksKnow s.scope) e.around g.backs).1;
+}
+
+pub good_back : (s t : Seen) → IsGood s → LeavesBack s t → IsTold t → IsGood t
+good_back s t g e told = record { told = told; named = named; backs = (subst (BacksKnow s.scope) e.around g.backs).1 }
+  where
+    named : (i : ℕ) → i < 7 → slice_get t.names i ≡ Some (built_in i)
+    named i l =
+        let n = naming s.names in
+        let mu = n.0 in
+        let known = (subst (BacksKnow s.scope) e.around g.backs).0 mu (λ j k. n.1.agrees j (built_in j) (g.named j k)) i l in
+        let h = told.only mu (built_in i) (subst (λ (σ : St). IsSome (σ.known (built_in i))) (sym (e.first mu)) known) in
+        let f : (m : Name) × (slice_get t.names h.0 ≡ Some m) = there t.names h.0 h.1 in
+        let ej = e.names h.0 f.0 f.1 in
+        let q : f.0 ≡ built_in i = sym (n.1.agrees h.0 f.0 ej) ∙ h.2 in
+        let same : h.0 ≡ i = g.told.apart h.0 i (built_in i) (ej ∙ ap Some q) (g.named i l) in
+        subst (λ j. slice_get t.names j ≡ Some (built_in i)) same (f.1 ∙ ap Some q)
