@@ -1,5 +1,5 @@
 -- Scopes that were opened for a call, and end.
-use Rattle.std.specs.Prelude.{Bool, true, false, List, Option, None, Some, slice_get, IsSome, length}
+use Rattle.std.specs.Prelude.{Bool, true, false, List, Option, None, Some, slice_get, IsSome, length, Result, Ok, Err, OnOk, IfErr}
 use Rattle.std.proofs.Common.{◌≡◌, ◌≤◌, ◌<◌, ◌+◌, ◌⊎◌, inl, inr, ℕ, refl, sym, ap, subst, ◌∙◌, arith, [], ◌∷◌, ◌++◌}
 use Rattle.std.proofs.lemmas.Option.{slice_get_within}
 use Rattle.std.proofs.lemmas.Bool.{cases_lt}
@@ -15,18 +15,22 @@ use Rattle.run_laws.proofs.Cuts.{in_branch}
 use Rattle.run_laws.proofs.Paths.{up}
 use Rattle.run_laws.proofs.Within.{After}
 use Rattle.ask_model.specs.declared.AskStop.TheVariants as stop
-use Rattle.value_cells.specs.Seen.{Naming, Seen, Scope, Fits, Grows}
+use Rattle.value_cells.specs.declared.Value.{Value}
+use Rattle.value_cells.specs.Seen.{val_in, Naming, Seen, Scope, Fits, Grows}
 use Rattle.eval_ops.specs.Calls.{LeavesBack, Changes}
 use Rattle.eval_ops.specs.Looks.{IsTold}
+use Rattle.run_host.specs.declared.Exit.{Exit}
+use Rattle.run_host.specs.declared.Exit.TheVariants as exit
 use Rattle.run_host.specs.declared.Halt.TheVariants as halt
 use Rattle.run_host.specs.declared.Refusal.{Refusal}
 use Rattle.run_host.specs.Moment.{Moment, cells, rest_of, draws_in, AllDealt, Suits, Clear, place, Same, Within}
-use Rattle.run_host.specs.Told.{Told, Says, Halts, Fails, GoesOn, next_of, IsShown}
+use Rattle.run_host.specs.Told.{Told, Says, Halts, Fails, GoesOn, next_of, IsShown, told_exit}
 use Rattle.run_host.specs.Ends.{Comes, says, halts, fails}
 use Rattle.run_host.specs.Did.{Runs}
-use Rattle.run_host.specs.Scopes.{Local, called, Opens, OpensFork}
+use Rattle.run_host.specs.Scopes.{Local, called, Opens, OpensFork, told_fork}
 use Rattle.run_host.proofs.Moments.{fits_before, there, same_trans, suits_before}
-use Rattle.machine_host.specs.Leaving.{LeftKeep, LeftBack}
+use Rattle.machine_host.specs.Leaving.{LeftKeep, LeftBack, LeftWith, joined_in, EndsFork}
+use Rattle.machine_host.specs.Asking.{Loses}
 use Rattle.machine_host.proofs.Turns.{naming}
 use Rattle.machine_host.proofs.Branched.{EndsAbsent, EndsRun, fork_absent, fork_joined, fork_threw, fork_refused, fork_ends, fork_lost}
 use native.Mathlib.Nat.{le_refl}
@@ -332,3 +336,26 @@ module _ {g : Naming → Prog} {told : Naming → Told} {before opened ended : M
           let q = sym (first nu fits) in
           halts (fork_refused p (g nu) (before.heap.first nu) (rest_of before) o.here (unfound_is nu) r.added (ended.heap.first nu) (rest_of ended) next y (new.heap.first nu)
           (record { text = ap (λ (s : St). s.text) q; verdict = ap (λ (s : St). s.verdict) q; gone = ap (λ (s : St). s.gone) q }) came (gone_at nu false (there_are nu fe))))
+
+-- ---- as the functions tell of them
+
+module _ {told : Naming → Told} (goes : (nu : Naming) → GoesOn (told nu)) (old new : Moment) where
+  pub lost_ends : (x : Exit) → Loses x old new → EndsFork told old (λ nu. told_exit nu x) new
+  lost_ends x l g before opened local o run = subst (λ x. Runs (λ nu. Fork (g nu)) (λ nu. told_exit nu x) before new) (sym l.is) (ends_lost o run goes new l.same l.made)
+
+  pub absent_ends : {p : Path} (r : Result (Unit {0}) Exit) → p ≡ old.heap.scope.path → ((nu : Naming) → Fits nu old.heap.names → EndsAbsent (told nu) (any_gone old.heap.scope.path (old.heap.first nu).gone))
+      → OnOk r (LeftBack (absent p) old new) → IfErr r (λ x. Loses x old new) → EndsFork told old (λ nu. told_fork nu r) new
+  absent_ends (Ok u) is d k l g before opened local o run = ends_absent o run goes k is d local
+  absent_ends (Err x) is d k l g before opened local o run = lost_ends x l g before opened local o run
+
+module _ (old new : Moment) (there_are : (nu : Naming) → Fits nu old.heap.names → any_gone old.heap.scope.path (old.heap.first nu).gone ≡ false) where
+  pub given_ends : (v : Value) (r : Result (Unit {0}) Exit) → OnOk r (LeftWith (λ nu. give_value (val_in nu v) (joined_in old nu)) old new) → IfErr r (λ x. Loses x old new)
+      → EndsFork (λ nu. Says (Normal (val_in nu v))) old (λ nu. told_fork nu r) new
+  given_ends v (Ok u) k l g before opened local o run = ends_joined o run (λ nu. tt) k.keeps there_are (λ nu. val_in nu v) (λ nu. refl) k.first_is
+  given_ends v (Err x) k l g before opened local o run = lost_ends (λ nu. tt) old new x l g before opened local o run
+
+  pub thrown_ends : (v : Value) → LeftWith (λ nu. threw old.heap.scope.path (joined_in old nu)) old new → EndsFork (λ nu. Says (Throw (val_in nu v))) old (λ nu. told_exit nu (exit.Throw v)) new
+  thrown_ends v k g before opened local o run = ends_thrown o run (λ nu. tt) k.keeps there_are (λ nu. val_in nu v) (λ nu. refl) k.first_is
+
+  pub refused_ends : (y : Refusal) → LeftWith (λ nu. leave (old.heap.scope.back nu) (old.heap.first nu)) old new → EndsFork (λ nu. Halts (halt.Refused y)) old (λ nu. told_exit nu (exit.Halted (halt.Refused y))) new
+  refused_ends y k g before opened local o run = ends_refused o run (λ nu. tt) k.keeps there_are y (λ nu. refl) k.first_is

@@ -1,13 +1,22 @@
 -- What holds where a scope was left.
-use Rattle.std.specs.Prelude.{List, Some, None, IsSome, length, slice_get}
+use Rattle.std.specs.Prelude.{List, Bool, true, false, Some, None, IsSome, length, slice_get, Result, Ok, Err, OnOk}
 use Rattle.std.proofs.Common.{◌≡◌, ◌<◌, ◌+◌, ℕ, zero, suc, length-append, refl, sym, ap, subst, ◌∙◌, arith, [], ◌∷◌, ◌++◌}
 use Rattle.std.proofs.lemmas.Option.{slice_get_within}
 use Rattle.turk_base.specs.Names.{Name}
 use Rattle.turk_base.specs.Errors.{built_in}
-use Rattle.turk_base.specs.State.{St}
-use Rattle.value_cells.specs.Seen.{Naming, Seen, Scope}
+use Rattle.turk_base.specs.Start.{start}
+use Rattle.turk_base.specs.State.{St, join, join_scope, act, act_join, any_gone, leave}
+use Rattle.turk_base.specs.Steps.{joined, steps_of}
+use Rattle.turk_base.specs.Values.{Val, Undefined}
+use Rattle.value_cells.specs.Comes.{Comes, goes, stops, spends, other, then_goes, acted, comes}
+use Rattle.value_cells.specs.Does.{Stays}
+use Rattle.value_cells.specs.Seen.{Naming, Seen, Scope, Fits}
 use Rattle.eval_ops.specs.Looks.{IsTold}
-use Rattle.eval_ops.specs.Calls.{LeavesBack, LeavesKeep}
+use Rattle.eval_ops.specs.Calls.{LeavesBack, LeavesKeep, join_from}
+use Rattle.run_host.specs.Moment.{Moment}
+use Rattle.run_host.specs.declared.Exit.{Exit}
+use Rattle.machine_host.specs.Leaving.{LeftWith, joined_in}
+use Rattle.machine_host.proofs.Halting.{free_comes}
 use Rattle.run_host.proofs.Moments.{there}
 use Rattle.machine_host.specs.Sound.{KnowsBuiltIns, BacksKnow, IsGood, AreOpen}
 use Rattle.machine_host.proofs.Turns.{naming}
@@ -59,3 +68,50 @@ good_back s t g e told = record { told = told; named = named; backs = (subst (Ba
         let q : f.0 ≡ built_in i = sym (n.1.agrees h.0 f.0 ej) ∙ h.2 in
         let same : h.0 ≡ i = g.told.apart h.0 i (built_in i) (ej ∙ ap Some q) (g.named i l) in
         subst (λ j. slice_get t.names j ≡ Some (built_in i)) same (f.1 ∙ ap Some q)
+
+-- ---- a scope that was joined and left
+
+pub ok_then : {A P Q : Type 0} (r : Result A Exit) → (P → Q) → OnOk r P → OnOk r Q
+ok_then (Ok a) f h = f h
+ok_then (Err y) f h = tt
+
+abbrev state_of : Comes Val → St
+state_of (goes a τ m) = τ
+state_of (stops why τ m) = start
+state_of (spends τ m) = start
+state_of other = start
+
+abbrev left_of : Comes Val → ℕ
+left_of (goes a τ m) = m
+left_of (stops why τ m) = 0
+left_of (spends τ m) = 0
+left_of other = 0
+
+join_comes : (s : Seen) (nu : Naming) (gone : Bool) → any_gone s.scope.path (s.first nu).gone ≡ gone
+    → join_from false nu s ≡ then_goes (acted (act_join false gone false s.scope.path (s.first nu)) s.left) (λ a τ m. comes (joined false a) s.scope.path s.scope.branch false τ m)
+unfolding steps_of act
+join_comes s nu gone g =
+    free_comes (join false) (λ vs. joined false vs) s.scope.path s.scope.branch false (s.first nu) refl s.left
+    ∙ ap (λ b. then_goes (acted (act_join false b false s.scope.path (s.first nu)) s.left) (λ a τ m. comes (joined false a) s.scope.path s.scope.branch false τ m)) g
+
+cut_at : (s mid : Seen) (nu : Naming) (v : Val) (gone : Bool) → then_goes (acted (act_join false gone false s.scope.path (s.first nu)) s.left) (λ a τ m. comes (joined false a) s.scope.path s.scope.branch false τ m) ≡ goes v (mid.first nu) mid.left
+    → (mid.first nu ≡ join_scope s.scope.path (s.first nu)) × (mid.left ≡ s.left)
+unfolding comes
+cut_at s mid nu v true e = let z : ⊥ = cc in absurd z
+cut_at s mid nu v false e = (sym (ap state_of e), sym (ap left_of e))
+
+pub cut_by : (s mid : Seen) (nu : Naming) (v : Val) → join_from false nu s ≡ goes v (mid.first nu) mid.left → (mid.first nu ≡ join_scope s.scope.path (s.first nu)) × (mid.left ≡ s.left)
+cut_by s mid nu v e = let gone = any_gone s.scope.path (s.first nu).gone in cut_at s mid nu v gone (sym (join_comes s nu gone refl) ∙ e)
+
+pub joined_with : (ended new : Moment) (mid : Seen) → Stays ended.heap mid → ((nu : Naming) → Fits nu mid.names → (mid.first nu ≡ join_scope ended.heap.scope.path (ended.heap.first nu)) × (mid.left ≡ ended.heap.left))
+    → LeavesKeep mid new.heap → new ≡ record ended { heap = new.heap } → LeftWith (joined_in ended) ended new
+joined_with ended new mid stays cut k is = record {
+  keeps = record {
+    around = sym stays.outer ∙ k.around;
+    grows = λ i n e. ap (λ l. slice_get l i) k.names ∙ stays.grows i n e;
+    below = λ i n e l. stays.below i n (ap (λ q. slice_get q i) (sym k.names) ∙ e) l;
+    left = k.left ∙ (cut (naming mid.names).0 (naming mid.names).1).1;
+    rest = is;
+  };
+  first_is = λ nu fits. k.first nu ∙ (λ i. leave ((stays.scope i).back nu) ((cut nu (subst (Fits nu) k.names fits)).0 i));
+}
