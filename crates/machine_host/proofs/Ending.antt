@@ -359,3 +359,7 @@ module _ (old new : Moment) (there_are : (nu : Naming) → Fits nu old.heap.name
 
   pub refused_ends : (y : Refusal) → LeftWith (λ nu. leave (old.heap.scope.back nu) (old.heap.first nu)) old new → EndsFork (λ nu. Halts (halt.Refused y)) old (λ nu. told_exit nu (exit.Halted (halt.Refused y))) new
   refused_ends y k g before opened local o run = ends_refused o run (λ nu. tt) k.keeps there_are y (λ nu. refl) k.first_is
+
+-- where the branch ended the run
+pub run_ends : {told : Naming → Told} (old : Moment) → ((nu : Naming) → EndsRun (told nu)) → EndsFork told old told old
+run_ends old d g before opened local o run = ends_run o run d

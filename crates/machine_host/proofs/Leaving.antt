@@ -12,9 +12,12 @@ use Rattle.value_cells.specs.Comes.{Comes, goes, stops, spends, other, then_goes
 use Rattle.value_cells.specs.Does.{Stays}
 use Rattle.value_cells.specs.Seen.{Naming, Seen, Scope, Fits}
 use Rattle.eval_ops.specs.Looks.{IsTold}
-use Rattle.eval_ops.specs.Calls.{LeavesBack, LeavesKeep, join_from}
+use Rattle.eval_ops.specs.Calls.{LeavesBack, LeavesKeep, Changes, join_from}
 use Rattle.run_host.specs.Moment.{Moment}
 use Rattle.run_host.specs.declared.Exit.{Exit}
+use Rattle.run_host.specs.declared.Exit.TheVariants.{Stopped}
+use Rattle.ask_model.specs.declared.AskStop.TheVariants.{Memory}
+use Rattle.machine_host.specs.Asking.{Loses}
 use Rattle.machine_host.specs.Leaving.{LeftWith, joined_in}
 use Rattle.machine_host.proofs.Halting.{free_comes}
 use Rattle.run_host.proofs.Moments.{there}
@@ -114,4 +117,36 @@ joined_with ended new mid stays cut k is = record {
     rest = is;
   };
   first_is = λ nu fits. k.first nu ∙ (λ i. leave ((stays.scope i).back nu) ((cut nu (subst (Fits nu) k.names fits)).0 i));
+}
+
+-- where the first part of the state was changed after it
+pub left_then : {first : Naming → St} (h : Naming → St → St) (old mid new : Moment) → LeftWith first old mid → Changes h mid.heap new.heap → new ≡ record mid { heap = new.heap } → LeftWith (λ nu. h nu (first nu)) old new
+left_then h old mid new k c is = record {
+  keeps = record {
+    around = k.keeps.around ∙ (λ i. sym c.scope i ∷ sym c.outer i);
+    grows = λ i n e. ap (λ l. slice_get l i) c.names ∙ k.keeps.grows i n e;
+    below = λ i n e l. k.keeps.below i n (ap (λ q. slice_get q i) (sym c.names) ∙ e) l;
+    left = c.left ∙ k.keeps.left;
+    rest = is ∙ ap (λ (m : Moment). record m { heap = new.heap }) k.keeps.rest;
+  };
+  first_is = λ nu fits. c.first nu fits ∙ ap (h nu) (k.first_is nu (subst (Fits nu) c.names fits));
+}
+
+pub left_lost : {first : Naming → St} (old new : Moment) → LeftWith first old new → Loses (Stopped Memory) old new
+left_lost old new k = record {
+  is = refl;
+  same = record { session = ap (λ (m : Moment). m.session) k.keeps.rest; trace = ap (λ (m : Moment). m.trace) k.keeps.rest; pairs = ap (λ (m : Moment). m.pairs) k.keeps.rest; grows = k.keeps.grows };
+  made = ap (λ (m : Moment). m.made) k.keeps.rest;
+}
+
+pub kept_with : (old new : Moment) → LeavesKeep old.heap new.heap → new ≡ record old { heap = new.heap } → LeftWith (λ nu. leave (old.heap.scope.back nu) (old.heap.first nu)) old new
+kept_with old new k is = record {
+  keeps = record {
+    around = k.around;
+    grows = λ i n e. ap (λ l. slice_get l i) k.names ∙ e;
+    below = λ i n e l. let h = slice_get_within old.heap.names i n (ap (λ q. slice_get q i) (sym k.names) ∙ e) in let z : ⊥ = omega (arith, h, l) in absurd z;
+    left = k.left;
+    rest = is;
+  };
+  first_is = λ nu fits. k.first nu;
 }

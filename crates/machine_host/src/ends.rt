@@ -43,6 +43,7 @@ impl<A: Asker> AskedRun<A> {
     fn keep_done(&mut self) -> Result<(), Exit>
         requires sound { IsSound A.is_sound A.seen self.old }
         ensures left { OnOk result (LeavesKeep (heap_of self.old) (heap_of self.new)) }
+        ensures more { cells (moment_of A.seen A.words self.old) ≤ cells (moment_of A.seen A.words self.new) }
         ensures same { OnErr result (self.new.guarded ≡ self.old.guarded) }
         ensures lost { IfErr result (λ x. x ≡ Exit.Stopped AskStop.Memory) }
         ensures asker { self.new.asker ≡ self.old.asker }
@@ -75,6 +76,7 @@ impl<A: Asker> AskedRun<A> {
     fn branch_joined(&mut self) -> Result<(), Exit>
         requires sound { IsSound A.is_sound A.seen self.old }
         ensures ok { OnOk result (LeftWith (joined_in (moment_of A.seen A.words self.old)) (moment_of A.seen A.words self.old) (moment_of A.seen A.words self.new)) }
+        ensures more { cells (moment_of A.seen A.words self.old) ≤ cells (moment_of A.seen A.words self.new) }
         ensures err { IfErr result (λ x. Loses x (moment_of A.seen A.words self.old) (moment_of A.seen A.words self.new)) }
         ensures sound { IsSound A.is_sound A.seen self.new }
     {
@@ -83,6 +85,43 @@ impl<A: Asker> AskedRun<A> {
         match joined {
             Ok(Some(_)) => self.keep_done(),
             _ => Err(Exit::Stopped(AskStop::Memory)),
+        }
+    }
+
+    /// The branch that runs joins, and gives its value to the scope around.
+    fn branch_given(&mut self, value: Value) -> Result<(), Exit>
+        requires sound { IsSound A.is_sound A.seen self.old }
+        requires value { needs value ≤ cells (moment_of A.seen A.words self.old) }
+        ensures ok { OnOk result (LeftWith (λ nu. give_value (val_in nu value) (joined_in (moment_of A.seen A.words self.old) nu)) (moment_of A.seen A.words self.old) (moment_of A.seen A.words self.new)) }
+        ensures err { IfErr result (λ x. Loses x (moment_of A.seen A.words self.old) (moment_of A.seen A.words self.new)) }
+        ensures sound { IsSound A.is_sound A.seen self.new }
+    {
+        self.branch_joined()?;
+        let given = self.guarded.machine.give(value);
+        self.guarded.machine.known();
+        match given {
+            Ok(()) => Ok(()),
+            Err(_) => Err(Exit::Stopped(AskStop::Memory)),
+        }
+    }
+
+    /// The branch that runs joins, and the verdict rule for one that threw is applied.
+    fn branch_threw(&mut self) -> Result<(), Exit>
+        requires sound { IsSound A.is_sound A.seen self.old }
+        ensures ok { OnOk result (LeftWith (λ nu. threw (heap_of self.old).scope.path (joined_in (moment_of A.seen A.words self.old) nu)) (moment_of A.seen A.words self.old) (moment_of A.seen A.words self.new)) }
+        ensures more { cells (moment_of A.seen A.words self.old) ≤ cells (moment_of A.seen A.words self.new) }
+        ensures err { IfErr result (λ x. Loses x (moment_of A.seen A.words self.old) (moment_of A.seen A.words self.new)) }
+        ensures sound { IsSound A.is_sound A.seen self.new }
+    {
+        let Ok(path) = self.guarded.machine.path().copy(self.alloc) else {
+            return Err(Exit::Stopped(AskStop::Memory));
+        };
+        self.branch_joined()?;
+        let told = self.guarded.machine.threw(&path);
+        self.guarded.machine.known();
+        match told {
+            Ok(()) => Ok(()),
+            Err(_) => Err(Exit::Stopped(AskStop::Memory)),
         }
     }
 }

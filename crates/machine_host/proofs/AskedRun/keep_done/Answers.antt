@@ -1,3 +1,4 @@
+use Rattle.std.proofs.Common.{ap, arith, length}
 use Rattle.eval_ops.specs.Run.{seen_of}
 use Rattle.machine_host.specs.Runs.{heap_of}
 use Rattle.machine_host.proofs.Leaving.{open_left, good_kept}
@@ -13,3 +14,6 @@ returns-clause-sound g c =
       good = good_kept s t c.requires.sound.good e c.known.ensures;
       entered = open_left c.pop.new.self.items c.args.self.now.entered.items c.in-Some.entered s.outer t.outer t.scope c.in-Some.ensures.items c.requires.sound.entered e.around;
     }
+
+pub returns-clause-more : goal.returns-clause-more
+returns-clause-more g c = let a = ap length c.leave_keep.ensures.names in omega (arith, a)
