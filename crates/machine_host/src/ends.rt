@@ -83,7 +83,10 @@ impl<A: Asker> AskedRun<A> {
         let joined = self.guarded.machine.join(false);
         self.guarded.machine.known();
         match joined {
-            Ok(Some(_)) => self.keep_done(),
+            Ok(Some(value)) => {
+                drop(value);
+                self.keep_done()
+            }
             _ => Err(Exit::Stopped(AskStop::Memory)),
         }
     }

@@ -1,6 +1,5 @@
-use Rattle.std.specs.Prelude.{Ok, false, Option, Result}
+use Rattle.std.specs.Prelude.{Ok, false, Option}
 use Rattle.std.proofs.Common.{subst}
-use Rattle.value_cells.specs.declared.OpStop.{OpStop}
 use Rattle.value_cells.specs.declared.Value.{Value}
 use Rattle.eval_ops.specs.Run.{seen_of}
 use Rattle.eval_ops.specs.Calls.{Joins}
@@ -13,7 +12,7 @@ pub returns-in-Ok-Some-clause-ok : goal.returns-in-Ok-Some-clause-ok
 returns-in-Ok-Some-clause-ok g c =
     let s = heap_of c.args.self.now in
     let mid = seen_of c.join-joined.new.self in
-    let j = subst (λ (o : Option Value). Joins false (Ok o) s mid) c.in-Ok-Some.field-0-is (subst (λ (r : Result (Option Value) OpStop). Joins false r s mid) c.in-Ok-Some.is c.join-joined.ensures.did) in
+    let j = subst (λ (o : Option Value). Joins false (Ok o) s mid) c.in-Ok-Some.field-0-is c.in-Ok-Some.ensures.did in
     let e = c.keep_done.ensures in
     let old = moment_of g.A.Asker.seen g.A.Asker.words c.args.self.now in
     ok_then c.keep_done.result (λ k. joined_with old (moment_of g.A.Asker.seen g.A.Asker.words c.keep_done.new.self) mid j.stays (λ nu fits. cut_by s mid nu _ (j.did nu fits)) k
