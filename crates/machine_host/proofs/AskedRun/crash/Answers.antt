@@ -1,5 +1,3 @@
-use Rattle.machine_host.proofs.Ending.{refused_ends}
-use Rattle.machine_host.proofs.Leaving.{joined_with}
 use Rattle.std.proofs.Common.{◌∙◌, refl, ap, map, ◌∷◌, ◌++◌, []}
 use Rattle.turk_base.specs.Names.{path_in}
 use Rattle.turk_base.specs.Values.{crashed}
