@@ -289,7 +289,7 @@ module _ {g : Naming → Prog} {told : Naming → Told} {before opened ended : M
         let own : before.heap.first m ≡ before.heap.first nu = own_is o.opens r k w nu fits in
         let came = branch_came m fm E (suits_back o.opens r k w E su) bound l (clear_back o.opens r k w nu fits c) in
         let e = fork_absent (place E bound before) (g m) (before.heap.first m) (rest_of before) o.here (unfound_is m) r.added (ended.heap.first m) (rest_of ended) (next_of E (draws_in ended.made) ended.unmade) (told m) came
-            (subst (EndsAbsent (told m)) (ap (λ q. any_gone q (ended.heap.first m).gone) (path_is o.opens r w m)) (d m fm)) in
+        (subst (EndsAbsent (told m)) (ap (λ q. any_gone q (ended.heap.first m).gone) (path_is o.opens r w m)) (d m fm)) in
         let last : new.heap.first nu ≡ absent (sub (before.heap.first nu).calls s) (next_call (before.heap.first nu)) = first_back o.opens r k w nu fits ∙ ap (λ q. absent q (next_call (before.heap.first nu))) (is ∙ path_is o.opens r w nu) in
         subst (λ x. Comes (place E bound before) (Fork (g nu)) (before.heap.first nu) (rest_of before) r.added (next_of E (draws_in new.made) new.unmade) (Says (Normal Undefined)) (new.heap.first nu) x) (sym (rest_back o.opens r k w))
         (says (subst (λ t. Ends (place E bound before) (Fork (g nu)) (Normal Undefined) (before.heap.first nu) (rest_of before) t (rest_of ended) r.added) (sym last)
