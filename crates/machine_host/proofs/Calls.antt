@@ -107,6 +107,7 @@ module _ {A : Type 0} (f : Naming → Step A) (g : Naming → Small A) (asks : (
             at = q.at;
             left = q.left;
             like = q.like;
+            fuel = λ z. q.fuel;
             stops = record { holds = λ k. (asks nu).runs (place E bound m) (go nu) k (m.heap.first nu) (rest_of m) ∙ q.is (λ a τ x. run_at (place E bound m) (go nu a) k τ x) };
           });
     };
@@ -272,6 +273,7 @@ module _ (q : Question) (f : Step (AnsOf q)) (is : Asks f (steps.ask q give)) (s
         at = next_call (m.heap.first nu);
         left = n.heap.left;
         like = same_first nu fits;
+        fuel = refl;
         is = λ k.
             ask_run nu E k None false None (what_none (find (at_call nu) m.trace) (what_there nu c ∙ unfound)) (below_there nu c ∙ unbelow) (ap (λ z. fresh q E (draws_in m.made) z) (sym (x.path nu)) ∙ d E su)
             ∙ (λ i. res (out i) (next_call (m.heap.first nu)) (noted_is q n.heap.left x.left i));
@@ -347,7 +349,7 @@ module _ (q : Question) (f : Step (AnsOf q)) (is : Asks f (steps.ask q give)) (s
       (record { scope = x.scope; outer = x.outer; below = below_new; falls = let h = x.left in omega (arith, h) })
       refl
       refl
-      (λ nu fits E su c. record { at = next_call (m.heap.first nu); left = m.heap.left; like = same_first nu fits; is = λ k. run nu fits E su c k }))
+      (λ nu fits E su c. record { at = next_call (m.heap.first nu); left = m.heap.left; like = same_first nu fits; fuel = sym x.left; is = λ k. run nu fits E su c k }))
 
   ask_diverges : (r : Record) → told.at (known_to s) p ≡ Some r → kept_answer q m.session (path_in p) r ≡ None → (y : Exit) → Tells y (diverges (path_in p) (found_kept r) (called_by q)) → Leaves (λ nu. f) y m with_index
   ask_diverges r here e y t = diverges_at y (diverges (path_in p) (found_kept r) (called_by q)) t

@@ -80,6 +80,7 @@ pub record Stopped {A : Type 0} (g : Small A) (m : Moment) (E : World) (out : Ou
   pub at : St
   pub left : ℕ
   pub like : Like at τ
+  pub fuel : left ≡ rest.left
   pub is : (k : A → St → Rest → Res) → run_steps g E m.trace m.heap.scope.path m.heap.scope.branch m.heap.scope.body k σ (rest_of m) ≡ res out at (record rest { left = left })
 
 module _ {A : Type 0} (f : Naming → Step A) (g : Naming → Small A) (asks : (nu : Naming) → Asks (f nu) (g nu)) where
@@ -102,6 +103,7 @@ module _ {A : Type 0} (f : Naming → Step A) (g : Naming → Small A) (asks : (
             at = q.at;
             left = q.left;
             like = q.like;
+            fuel = λ z. q.fuel;
             stops = record { holds = λ k. (asks nu).runs (place E bound m) (go nu) k (m.heap.first nu) (rest_of m) ∙ q.is (λ a τ x. run_at (place E bound m) (go nu a) k τ x) };
           });
     };
@@ -116,6 +118,7 @@ forks_refused m e = halts_leave (λ nu. ask MayFork) (λ nu. steps_of MayFork) (
       at = m.heap.first nu;
       left = m.heap.left;
       like = record { text = refl; verdict = refl; gone = refl };
+      fuel = refl;
       is = λ k. free_runs forks_here give m.heap.scope.path m.heap.scope.branch m.heap.scope.body (m.heap.first nu) refl E m.trace k (rest_of m)
           ∙ ap (λ b. on_act (act_forks b (m.heap.first nu)) (m.heap.first nu) (rest_of m) (λ a τ x. run_steps (give a) E m.trace m.heap.scope.path m.heap.scope.branch m.heap.scope.body k τ x)) e;
     })
@@ -153,6 +156,7 @@ crash_is m nu E = record {
   at = m.heap.first nu;
   left = m.heap.left;
   like = record { text = refl; verdict = refl; gone = refl };
+  fuel = refl;
   is = λ k. free_runs crash give m.heap.scope.path m.heap.scope.branch m.heap.scope.body (m.heap.first nu) refl E m.trace k (rest_of m);
 }
 
@@ -185,6 +189,7 @@ join_refused m e = halts_leave (λ nu. ask (Join true)) (λ nu. steps_of (Join t
       at = m.heap.first nu;
       left = m.heap.left;
       like = record { text = refl; verdict = refl; gone = refl };
+      fuel = refl;
       is = λ k. join_is m nu E k true (any_gone m.heap.scope.path (m.heap.first nu).gone) (too_many true (m.heap.first nu).vals) e refl refl;
     })
 
@@ -201,7 +206,7 @@ module _ (m : Moment) (t : Seen) (here : m.heap.scope.body ≡ false) where
       let n = naming t.names in
       let low = (d n.0 n.1 (record { session = m.session; pairs = m.pairs; dice = told_by [] })).1 in
       halts_leave (λ nu. ask (Join true)) (λ nu. steps_of (Join true)) (λ nu. asks_of (Join true)) m (with_heap m t) h out is (same_heap m t stays) (within_heap m t stays (omega (arith, low))) refl refl
-      (λ nu fits E. let q = d nu fits E in record { at = m.heap.first nu; left = m.heap.left; like = same_like q.0; is = q.2 })
+      (λ nu fits E. let q = d nu fits E in record { at = m.heap.first nu; left = m.heap.left; like = same_like q.0; fuel = sym q.1; is = q.2 })
 
   pub join_waits : (o : Option Value) → o ≡ None → Joins true (Ok o) m.heap t → Leaves (λ nu. ask (Join true)) (exit.Halted halt.Waits) m (with_heap m t)
   join_waits o e k = let j = subst (λ (o : Option Value). Joins true (Ok o) m.heap t) e k in join_stops halt.Waits waits refl j.stays (λ nu fits E. let q = j.did nu fits in (

@@ -1,10 +1,13 @@
 pub mod Answered
 pub mod Asked
+pub mod Branched
 pub mod Bridge
 pub mod Calls
 pub mod Counted
+pub mod Ending
 pub mod Fresh
 pub mod Halting
 pub mod Indexes
 pub mod Opening
+pub mod Leaving
 pub mod Turns

@@ -85,7 +85,7 @@ open_entered es n s t p branch a e is =
 
 module _ (f : Naming → Prog) where
   pub program_halts : (m n : Moment) (h : Halt) (out : Out) → shown.IsOut h out → Same m n → Within m n → n.made ≡ m.made → n.words ≡ m.words
-      → ((nu : Naming) → Fits nu n.heap.names → (E : World) (bound : ℕ) → Suits E n → Clear nu m → (at : St) × (left : ℕ) × Like at (n.heap.first nu) × ((k : Outcome → St → Rest → Res) → run_at (place E bound m) (f nu) k (m.heap.first nu) (rest_of m) ≡ res out at (record (rest_of n) { left = left })))
+      → ((nu : Naming) → Fits nu n.heap.names → (E : World) (bound : ℕ) → Suits E n → Clear nu m → (at : St) × (left : ℕ) × Like at (n.heap.first nu) × (left ≡ n.heap.left) × ((k : Outcome → St → Rest → Res) → run_at (place E bound m) (f nu) k (m.heap.first nu) (rest_of m) ≡ res out at (record (rest_of n) { left = left })))
       → Runs f (λ nu. shown.Halts h) m n
   program_halts m n h out is same within made drawn d = record {
     same = same;
@@ -95,7 +95,7 @@ module _ (f : Naming → Prog) where
     dealt = tt;
     moved = λ nu z. moves_same drawn;
     shown = λ nu. tt;
-    ran = λ nu fits E s bound l c. let q = d nu fits E bound s c in halts (record { out = out; is = is; at = q.0; left = q.1; like = q.2; stops = record { holds = q.3 } });
+    ran = λ nu fits E s bound l c. let q = d nu fits E bound s c in halts (record { out = out; is = is; at = q.0; left = q.1; like = q.2; fuel = λ z. q.3; stops = record { holds = q.4 } });
   }
 
   pub program_lost : (m n : Moment) (y : Exit) → Loses y m n → Runs f (λ nu. told_exit nu y) m n
@@ -119,6 +119,7 @@ fork_barred g m e = program_halts (λ nu. Fork (g nu)) m m (halt.Refused refusal
       m.heap.first nu,
       m.heap.left,
       record { text = refl; verdict = refl; gone = refl },
+      refl,
       λ k.
           ap (λ b. unless_body b (m.heap.first nu) (rest_of m) (on_fork (find (sub (m.heap.first nu).calls m.heap.scope.path) m.trace) (next_call (m.heap.first nu)) (forked (rest_of m)) (fork_goes k)
           (run (g nu) E m.trace bound (sub (m.heap.first nu).calls m.heap.scope.path) (sub (m.heap.first nu).calls m.heap.scope.path) false branch_end (enter (next_call (m.heap.first nu))) (forked (rest_of m)))
@@ -145,6 +146,7 @@ module _ (s : Asked) (m n : Moment) (trace : m.trace ≡ records_of s.trace) (ma
         next_call (m.heap.first nu),
         m.heap.left,
         record { text = ap (λ (σ : St). σ.text) (sym first); verdict = ap (λ (σ : St). σ.verdict) (sym first); gone = ap (λ (σ : St). σ.gone) (sym first) },
+        sym x.left,
         λ k.
             (λ i. unless_body (here i) (m.heap.first nu) (rest_of m) (on_fork (o.1 i) (next_call (m.heap.first nu)) (forked (rest_of m)) (fork_goes k)
             (run (g nu) E m.trace bound P P false branch_end (enter (next_call (m.heap.first nu))) (forked (rest_of m))) P))

@@ -75,7 +75,7 @@ pub record Begins (c : Place) (f g : Prog) (σ τ : St) (w x : Rest) : Type 0 wh
 
 pub begins_comes : {c : Place} {f g : Prog} {σ τ υ : St} {w x y : Rest} {l : List Rec} {next : AskStop → Next} {t : Told} → Begins c f g σ τ w x → Outcomes c g τ x l next t υ y → Outcomes c f σ w l next t υ y
 begins_comes b (says e) = says (record { holds = λ k. b.same k ∙ e.holds k })
-begins_comes b (halts h) = halts (record { out = h.out; is = h.is; at = h.at; left = h.left; like = h.like; stops = record { holds = λ k. b.same k ∙ h.stops.holds k } })
+begins_comes b (halts h) = halts (record { out = h.out; is = h.is; at = h.at; left = h.left; like = h.like; fuel = h.fuel; stops = record { holds = λ k. b.same k ∙ h.stops.holds k } })
 begins_comes {l = l} {next = next} b (fails {why = why} h) = fails (record { holds = λ k. subst (Follows l (next why)) (sym (b.same k)) (h.holds k) })
 
 -- a step of a program that asks for these steps
@@ -138,6 +138,7 @@ module _ {B : Type 0} {f : Naming → Prog} {m : Moment} {come : Naming → Come
       at = t.first nu;
       left = t.left;
       like = record { text = refl; verdict = refl; gone = refl };
+      fuel = λ z. refl;
       stops = record { holds = λ k. is_told nu E bound k (stops y (t.first nu) t.left) (d nu fits) tt };
     });
   }
@@ -161,6 +162,7 @@ module _ {B : Type 0} {f : Naming → Prog} {m : Moment} {come : Naming → Come
           at = q.0;
           left = q.1;
           like = record { text = sym q.3.text; verdict = sym q.3.verdict; gone = h.2 ∙ sym (gone nu) };
+          fuel = λ z. absurd z;
           stops = record { holds = λ k. is_told nu E bound k (spends q.0 q.1) q.2 tt };
         });
   }

@@ -1,6 +1,7 @@
 pub mod Asking
 pub mod Exits
 pub mod Guards
+pub mod Leaving
 pub mod Moments
 pub mod Onces
 pub mod Runs

@@ -11,6 +11,7 @@ use turk_base::{Data, Name, Path, Units, Whole};
 mod asks;
 mod begin;
 mod chains;
+mod ends;
 mod exits;
 mod guarded;
 mod kept;
