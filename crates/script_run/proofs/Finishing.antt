@@ -7,7 +7,7 @@ use Rattle.turk_base.specs.State.{St, any_gone}
 use Rattle.turk_base.specs.Values as model
 use Rattle.turk_base.specs.Values.{Val, Wait}
 use Rattle.js_tree.specs.World.{World, Rest}
-use Rattle.js_tree.specs.Run.{Out, Why, Res, End, ret, thr, valued, ended, waits, halted, spent, diverged, res, add, branch_end}
+use Rattle.js_tree.specs.Run.{Out, Why, Res, End, ret, thr, bar, valued, ended, waits, halted, spent, diverged, res, add, branch_end}
 use Rattle.js_tree.specs.Eval.{close, closed}
 use Rattle.js_tree.specs.Report as report
 use Rattle.js_tree.specs.Report.{EndOfRun, end_of, uncaught_text}
@@ -23,7 +23,7 @@ use Rattle.run_host.specs.Ends.{Like}
 use Rattle.run_host.specs.declared.Halt.{Halt}
 use Rattle.run_host.specs.declared.Halt.TheVariants as halt
 use Rattle.run_host.specs.Moment.{Unmade}
-use Rattle.run_host.specs.Told.{IsOut, GoesOn, flow_in, told_flow}
+use Rattle.run_host.specs.Told.{Halts, IsOut, GoesOn, refusal_in, flow_in, told_flow}
 use Rattle.script_run.specs.declared.End as told
 use Rattle.script_run.specs.declared.End.TheVariants as end
 use Rattle.script_run.specs.Closes.{HaltedAt}
@@ -71,20 +71,20 @@ module _ (x : Out) (at σ : St) (like : Like at σ) (w : Rest) (made : List Rec)
   }
 
 -- the script came to an end, and waits where a branch is absent
-pub chosen : {x : End} {at σ : St} {w : Rest} {made : List Rec} {e : Res} {l : List Wait} (absent : Bool) (result waiting y : told.End) → Like at σ → e ≡ close (add made (res (ended x) at w))
+pub chosen : (x : End) {at σ : St} {w : Rest} {made : List Rec} {e : Res} {l : List Wait} (absent : Bool) (result waiting y : told.End) → Like at σ → e ≡ close (add made (res (ended x) at w))
     → any_gone root σ.gone ≡ absent → w.waits ≡ l → TellsWaiting waiting l → EndIn y (end_of (ended x) at) w.waits → (absent ≡ true → result ≡ waiting) → (absent ≡ false → result ≡ y) → EndsAt result σ w made e
-chosen {x} {at} {σ} {w} {made} {e} {l} true result waiting y like is g h tells k c d =
+chosen x {at} {σ} {w} {made} {e} {l} true result waiting y like is g h tells k c d =
     subst (λ r. EndsAt r σ w made e) (sym (c refl)) (at_end (ended x) at σ like w made e is waiting waits (ap (λ b. closed b (ended x)) g) (tells report.Waiting w.waits refl h))
-chosen {x} {at} {σ} {w} {made} {e} {l} false result waiting y like is g h tells k c d =
+chosen x {at} {σ} {w} {made} {e} {l} false result waiting y like is g h tells k c d =
     subst (λ r. EndsAt r σ w made e) (sym (d refl)) (at_end (ended x) at σ like w made e is y (ended x) (ap (λ b. closed b (ended x)) g) k)
 
-pub finished_is : {nu : Naming} {o : Flow} {σ : St} {w : Rest} {made : List Rec} {e : Res} {l : List Wait} (absent : Bool) (result waiting : told.End) → e ≡ close (add made (branch_end (flow_in nu o) σ w))
+pub finished_is : (nu : Naming) (o : Flow) {σ : St} {w : Rest} {made : List Rec} {e : Res} {l : List Wait} (absent : Bool) (result waiting : told.End) → e ≡ close (add made (branch_end (flow_in nu o) σ w))
     → any_gone root σ.gone ≡ absent → w.waits ≡ l → TellsWaiting waiting l → (absent ≡ true → result ≡ waiting) → (absent ≡ false → result ≡ end.Finished) → EndsAt result σ w made e
-finished_is {nu} {o} {σ} {w} {made} {e} {l} absent result waiting is g h tells c d = chosen absent result waiting end.Finished like_same (is ∙ ap (λ r. close (add made r)) (came nu o σ w)) g h tells refl c d
+finished_is nu o {σ} {w} {made} {e} {l} absent result waiting is g h tells c d = chosen (ret (valued (gift_of nu o))) absent result waiting end.Finished like_same (is ∙ ap (λ r. close (add made r)) (came nu o σ w)) g h tells refl c d
 
-pub threw_is : {v : Val} {σ : St} {w : Rest} {made : List Rec} {e : Res} {l : List Wait} (absent : Bool) (result waiting : told.End) (text : Units) → text ≡ uncaught_text v σ → e ≡ close (add made (branch_end (model.Throw v) σ w))
+pub threw_is : (v : Val) {σ : St} {w : Rest} {made : List Rec} {e : Res} {l : List Wait} (absent : Bool) (result waiting : told.End) (text : Units) → text ≡ uncaught_text v σ → e ≡ close (add made (branch_end (model.Throw v) σ w))
     → any_gone root σ.gone ≡ absent → w.waits ≡ l → TellsWaiting waiting l → (absent ≡ true → result ≡ waiting) → (absent ≡ false → result ≡ end.Uncaught text) → EndsAt result σ w made e
-threw_is absent result waiting text x is g h tells c d = chosen absent result waiting (end.Uncaught text) like_same is g h tells (ap report.Uncaught (sym x)) c d
+threw_is v absent result waiting text x is g h tells c d = chosen (thr v) absent result waiting (end.Uncaught text) like_same is g h tells (ap report.Uncaught (sym x)) c d
 
 abbrev out_is : {h : Halt} {σ : St} {w : Rest} {made : List Rec} {e : Res} {o : Out} (a : HaltedAt h σ w made e) → a.out ≡ o → e ≡ close (add made (res o a.at (record w { left = a.left })))
 out_is {w = w} {made = made} a o = a.closed ∙ ap (λ o. close (add made (res o a.at (record w { left = a.left })))) o
@@ -95,7 +95,7 @@ with_left h = record { is = h.is; text = h.text; verdict = h.verdict; forks = h.
 
 pub refused_is : {h : Halt} {y : Refusal} {σ : St} {w : Rest} {made : List Rec} {e : Res} {l : List Wait} (absent : Bool) (result waiting : told.End) → h ≡ halt.Refused y → HaltedAt h σ w made e
     → any_gone root σ.gone ≡ absent → w.waits ≡ l → TellsWaiting waiting l → (absent ≡ true → result ≡ waiting) → (absent ≡ false → result ≡ end.Refused y) → EndsAt result σ w made e
-refused_is {h} {y} absent result waiting is a g k tells c d = with_left (chosen absent result waiting (end.Refused y) a.like (out_is a (subst (λ h. IsOut h a.out) is a.is)) g k tells refl c d)
+refused_is {h} {y} absent result waiting is a g k tells c d = with_left (chosen (bar (refusal_in y)) absent result waiting (end.Refused y) a.like (out_is a (subst (λ h. IsOut h a.out) is a.is)) g k tells refl c d)
 
 pub waits_is : {h : Halt} {σ : St} {w : Rest} {made : List Rec} {e : Res} {l : List Wait} (waiting : told.End) → h ≡ halt.Waits → HaltedAt h σ w made e → w.waits ≡ l → TellsWaiting waiting l → EndsAt waiting σ w made e
 waits_is {σ = σ} {w} {made} {e} waiting is a k tells =
@@ -131,6 +131,9 @@ if_err (Err y) f h = f y h
 -- the scope that runs is the script's
 pub at_root : {p : Path} {absent : Bool} (σ : St) → p ≡ root → absent ≡ any_gone p σ.gone → any_gone root σ.gone ≡ absent
 at_root σ e h = ap (λ p. any_gone p σ.gone) (sym e) ∙ sym h
+
+pub goes_refused : {h : Halt} {y : Refusal} → h ≡ halt.Refused y → GoesOn (Halts h)
+goes_refused e = subst (λ h. GoesOn (Halts h)) (sym e) tt
 
 pub goes : (nu : Naming) (r : Result Flow Exit) (f : Flow) → r ≡ Ok f → GoesOn (told_flow nu r)
 goes nu r f e = subst (λ (r : Result Flow Exit). GoesOn (told_flow nu r)) (sym e) tt

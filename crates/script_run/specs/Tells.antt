@@ -85,6 +85,6 @@ pub record Asks (words : ℕ → ℕ) (old new : Asked) : Type 0 where
 abbrev pub IsCome : Script → Units → Asked → Asked → ℕ → ℕ → List CodeWait → Seen → Result Flow Exit → Type 0
 IsCome S session old new fuel forks waits s flow =
     (u : Unmade) × ((nu : Naming) → Fits nu s.names → (E : World) → Knows E session old.replies (records_of new.made)
-        → ClosesAt E u (records_of new.made) (told_flow nu flow) (s.first nu)
-            (record { left = s.left; drawn = draws_in (records_of new.made); forks = forks; waits = map wait_in waits })
-            (eval (meaning S) E (records_of old.trace) fuel))
+    → ClosesAt E u (records_of new.made) (told_flow nu flow) (s.first nu)
+    (record { left = s.left; drawn = draws_in (records_of new.made); forks = forks; waits = map wait_in waits })
+    (eval (meaning S) E (records_of old.trace) fuel))

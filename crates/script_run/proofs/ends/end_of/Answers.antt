@@ -6,7 +6,7 @@ use Rattle.run_host.specs.declared.Flow.{Flow}
 use Rattle.value_cells.specs.Seen.{val_in}
 use Rattle.eval_ops.specs.Run.{seen_of}
 use Rattle.script_run.specs.Closes.{ClosesAt}
-use Rattle.script_run.specs.Tells.{EndIs, StopIs, by_asker}
+use Rattle.script_run.specs.Tells.{StopIs, by_asker}
 use Rattle.script_run.proofs.Finishing.{at_root, goes, if_ok, if_err, made_front}
 use Rattle.script_run.proofs.ends.end_of.Goals as goal
 
