@@ -208,6 +208,7 @@ module _ (s : Asked) (m n : Moment) (trace : m.trace ≡ records_of s.trace) (ma
           called false m.heap.scope.branch (m.heap.first nu),
           m.heap.left,
           record { text = ap (λ (σ : St). σ.text) (sym first); verdict = ap (λ (σ : St). σ.verdict) (sym first); gone = ap (λ (σ : St). σ.gone) (sym first) },
+          sym x.left,
           λ k.
               recorded nu E bound o.0 r o.1 k
               ∙ other_diverges r h o.0 (called false m.heap.scope.branch (m.heap.first nu)) (rest_of m) (after_once nu E k) (inner nu E bound) (at_once nu)
@@ -262,7 +263,7 @@ module _ (s : Asked) (m n : Moment) (trace : m.trace ≡ records_of s.trace) (ma
 
       put_refused : (y : model.Refusal) (z : Refusal) → refusal_in z ≡ y → ((nu : Naming) → Fits nu t.names → come nu ≡ stops y (t.first nu) t.left) → Runs (λ nu. Once (g nu)) (λ nu. shown.Halts (halt.Refused z)) m with_data
       put_refused y z is did = program_halts (λ nu. Once (g nu)) m with_data (halt.Refused z) (ended (bar y)) (ap (λ y. ended (bar y)) (sym is)) put_same (put_within (put_fell (λ nu. stops y (t.first nu) t.left) did (λ nu h. h.0))) refl refl
-          (λ nu fits E bound su c. (t.first nu, t.left, record { text = refl; verdict = refl; gone = refl }, λ k. put_is nu fits E bound c (stops y (t.first nu) t.left) (did nu fits) tt k))
+          (λ nu fits E bound su c. (t.first nu, t.left, record { text = refl; verdict = refl; gone = refl }, refl, λ k. put_is nu fits E bound c (stops y (t.first nu) t.left) (did nu fits) tt k))
 
       put_spent : KeepsGone n.heap t → ((nu : Naming) → Fits nu t.names → (σ : St) × (l : ℕ) × (come nu ≡ spends σ l) × Kept σ (t.first nu)) → Runs (λ nu. Once (g nu)) (λ nu. shown.Halts halt.Spent) m with_data
       put_spent gone did = record {
@@ -282,6 +283,7 @@ module _ (s : Asked) (m n : Moment) (trace : m.trace ≡ records_of s.trace) (ma
               at = q.0;
               left = q.1;
               like = record { text = sym q.3.text; verdict = sym q.3.verdict; gone = h.2 ∙ sym (gone nu) };
+              fuel = λ z. absurd z;
               stops = record { holds = λ k. put_is nu fits E bound c (spends q.0 q.1) q.2 tt k };
             });
       }
