@@ -1,6 +1,6 @@
 -- One entry more at the end of a table.
 use Rattle.std.proofs.Common.{◌≡◌, ◌≢◌, ℕ, ℤ, pos, negsuc, ◌<◌, ◌≤ℤ◌, Bool, true, false, cond, List, [], ◌∷◌, ◌++◌, length, Option, Some, None, Result, Ok, Err, refl, sym, ap, subst, ◌∙◌, arith, length-append, append_assoc, append-nil}
-use Rattle.std.specs.Prelude.{nat_eq, is_some, IfOk, is_err}
+use Rattle.std.specs.Prelude.{nat_eq, is_some, IfOk, IfErr, is_err}
 use Rattle.std.specs.Borrow.{MutBor}
 use Rattle.std.specs.List.{AllByRecursion}
 use Rattle.std.specs.Cmp.Lexicographic.{pointwise}
@@ -16,7 +16,7 @@ use Rattle.ask_model.specs.declared.AskStop.{AskStop}
 use Rattle.ask_model.specs.declared.AskStop.TheVariants.{Fault, Diverged, TraceFull, LogFull, Memory}
 use Rattle.ask_model.specs.declared.Refused.{Refused}
 use Rattle.ask_model.specs.Asker.{Pairs, entry, HasDistinctPaths, IsTrace, AreReplies, KnowsWithin, stop_of, refused_after, Adds, NoBoard}
-use Rattle.ask_model.specs.Table.{table, Added, Drew, Keeps}
+use Rattle.ask_model.specs.Table.{table, Added, Drew, Keeps, IsFullOrLost}
 
 pub same : (a b : List ℕ) → a ≡ b → pointwise nat_eq a b ≡ true
 same a b is = (slice_eq-Decides Decides-eqb a b (pointwise nat_eq a b) refl).1 is
@@ -90,6 +90,18 @@ no_board_by traced e made new (Some Memory) added = tt
 no_board_by traced e made new (Some (Fault which)) added = absurd added
 no_board_by traced e made new (Some (Diverged d)) added = absurd added
 no_board_by traced e made new (Some LogFull) added = absurd added
+
+-- each refusal is for want of room, or of memory
+full_or_lost : (traced : ℕ) (e : Entry) (made new : List Entry) (why : AskStop) → Added traced e made new (Some why) → IsFullOrLost why
+full_or_lost traced e made new TraceFull added = tt
+full_or_lost traced e made new Memory added = tt
+full_or_lost traced e made new (Fault which) added = absurd added
+full_or_lost traced e made new (Diverged d) added = absurd added
+full_or_lost traced e made new LogFull added = absurd added
+
+pub refusal_by : {T : Type 0} (traced : ℕ) (e : Entry) (made new : List Entry) (result : Result T AskStop) → Added traced e made new (stop_of result) → IfErr result (λ why. IsFullOrLost why)
+refusal_by traced e made new (Ok x) added = tt
+refusal_by traced e made new (Err why) added = full_or_lost traced e made new why added
 
 pub adds_by : (traced : ℕ) (trace made new : List Entry) (replies : Pairs) (asked : Option (List ℕ)) (refused : Refused) (e : Entry) (stop : Option AskStop) → traced ≡ length trace → Added traced e made new stop
     → Adds (λ _. true) (λ _. true) e (table trace replies made asked refused) (table trace replies new asked (refused_after (is_some stop) refused)) stop

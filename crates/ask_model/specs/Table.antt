@@ -41,6 +41,14 @@ IsFull traced made TraceFull = 65536 ≤ traced + length made
 IsFull traced made LogFull = ⊥
 IsFull traced made Memory = ⊤
 
+-- a refusal for want of room in the trace, or of memory
+abbrev pub IsFullOrLost : AskStop → Type 0
+IsFullOrLost (Fault which) = ⊥
+IsFullOrLost (Diverged d) = ⊥
+IsFullOrLost TraceFull = ⊤
+IsFullOrLost LogFull = ⊥
+IsFullOrLost Memory = ⊤
+
 -- What a call that draws did, by its answer.
 pub record Drew {W : Type 0} (rest : W → ℕ → ℕ) (traced : ℕ) (path : List ℕ) (bound : ℤ) (old_draws new_draws : W) (made new : List Entry) (result : Result ℤ AskStop) : Type 0 where
   pub value : IfOk result (λ v. v ≡ int_rem (pos (rest old_draws 0)) bound)

@@ -1,10 +1,11 @@
 //! The trait of what answers a run.
-ghost use Rattle.std.specs.Prelude.{◌≡◌, ◌≤◌, ◌+◌, ℕ, Bool, List, pos, int_rem, ◌≤ℤ◌, Some, None, false, length, IfOk, OnOk};
+ghost use Rattle.std.specs.Prelude.{◌≡◌, ◌≤◌, ◌+◌, ℕ, Bool, List, pos, int_rem, ◌≤ℤ◌, Some, None, false, length, IfOk, IfErr, OnOk};
 ghost use Rattle.std.specs.Option.{option_copied};
 ghost use Rattle.turk_base.specs.declared.Entry.{Entry};
 ghost use Rattle.turk_base.specs.declared.Record.TheVariants.{Post, Once};
 ghost use Rattle.turk_base.specs.Trace.{at, below, answer};
 ghost use Rattle.record_bytes.specs.Limits.{IsTextWithin, IsWithin};
+ghost use Rattle.ask_model.specs.declared.AskStop.{AskStop};
 ghost use Rattle.ask_model.specs.Asker.{Seen, known_to, entry, IsCallPath, KnowsWithin, known_at, asked_at, record_in, stop_of, Adds, NoBoard, Leaves, WithOrWithout, IsHeld, Posts, Replies, WithReply, Drawn};
 
 use crate::{AskStop, Known};
@@ -29,6 +30,9 @@ pub trait Asker {
 
     /// The words of its source that are still to be drawn.
     ghost words: { Self → ℕ → ℕ };
+
+    /// Which refusals it may answer.
+    ghost refuses: { AskStop → Type 0 };
 
     /// That it tells the board's tasks.
     ghost tells_tasks: { Type 0 };
@@ -77,6 +81,7 @@ pub trait Asker {
         ensures words { (k : ℕ) → words self.new k ≡ words self.old k }
         ensures tasks { tells_tasks → Posts token.now text.now (seen self.old).tasks (seen self.new).tasks (stop_of result) }
         ensures traces { tells_traces → Leaves moment left_since self.old self.new (WithOrWithout (seen self.old) (entry path.now (Post text.now))) }
+        ensures refusal { IfErr result (λ why. refuses why) }
         ensures sound { is_sound self.new }
         ensures keeps { keeps self.old self.new };
 
@@ -94,6 +99,7 @@ pub trait Asker {
         ensures words { (k : ℕ) → words self.new k ≡ words self.old k }
         ensures tasks { tells_tasks → (seen self.new).tasks ≡ (seen self.old).tasks }
         ensures traces { tells_traces → Leaves moment left_since self.old self.new (WithReply (seen self.old) path.now token.now (answer (seen self.old).replies token.now)) }
+        ensures refusal { IfErr result (λ why. refuses why) }
         ensures sound { is_sound self.new }
         ensures keeps { keeps self.old self.new };
 
@@ -110,6 +116,7 @@ pub trait Asker {
         ensures words { OnOk result ((k : ℕ) → words self.new k ≡ words self.old (1 + k)) }
         ensures no_board { NoBoard (stop_of result) }
         ensures tasks { tells_tasks → (seen self.new).tasks ≡ (seen self.old).tasks }
+        ensures refusal { IfErr result (λ why. refuses why) }
         ensures sound { is_sound self.new }
         ensures keeps { keeps self.old self.new };
 
@@ -124,6 +131,7 @@ pub trait Asker {
         ensures words { (k : ℕ) → words self.new k ≡ words self.old k }
         ensures tasks { tells_tasks → (seen self.new).tasks ≡ (seen self.old).tasks }
         ensures traces { tells_traces → Leaves moment left_since self.old self.new (WithOrWithout (seen self.old) (entry path.now (Once value.now))) }
+        ensures refusal { IfErr result (λ why. refuses why) }
         ensures sound { is_sound self.new }
         ensures keeps { keeps self.old self.new };
 

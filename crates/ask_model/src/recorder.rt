@@ -338,6 +338,8 @@ impl<'a, W: Draws> Asker for Recorder<'a, W> {
 
     ghost is_sound = { λ r. IsInOrder r.shelf.now r.start (recorded r.shelf.now r.start r.desk.now.tasks r.desk.now.faults r.replies.now r.asked r.refused) };
 
+    ghost refuses = { λ _. ⊤ };
+
     ghost tells_tasks = { ⊤ };
 
     ghost tells_traces = { ⊤ };

@@ -61,7 +61,7 @@ impl<'a, W: Draws> TableAsker<'a, W> {
 impl<'a, W: Draws> Asker for TableAsker<'a, W> {
     ghost use Rattle.std.specs.Prelude.{true};
     ghost use Rattle.ask_model.specs.Asker.{KnowsWithin};
-    ghost use Rattle.ask_model.specs.Table.{Keeps};
+    ghost use Rattle.ask_model.specs.Table.{Keeps, IsFullOrLost};
     ghost use Rattle.ask_model.specs.Laws.{keeps_refl, keeps_trans};
 
     ghost seen = { λ t. table t.trace.items t.replies.now t.made.items t.asked t.refused };
@@ -71,6 +71,8 @@ impl<'a, W: Draws> Asker for TableAsker<'a, W> {
     ghost words = { λ t. W.rest t.draws.now };
 
     ghost is_sound = { λ t. KnowsWithin (table t.trace.items t.replies.now t.made.items t.asked t.refused) };
+
+    ghost refuses = { IsFullOrLost };
 
     ghost tells_tasks = { ⊥ };
 

@@ -4,6 +4,7 @@ pub mod Marks
 pub mod Notes
 pub mod Prefixes
 pub mod Prints
+pub mod Prototypes
 pub mod Rules
 pub mod Scoping
 pub mod Starts

@@ -1,5 +1,5 @@
 //! The branches of the scope that runs: those that are absent, the values of the others, and joining.
-ghost use Rattle.std.specs.Prelude.{◌≡◌, ◌<◌, ◌≤◌, true, false, length, IfOk, IfErr, OnOk, map, reverse};
+ghost use Rattle.std.specs.Prelude.{◌≡◌, ◌<◌, ◌≤◌, true, false, length, IfOk, IfErr, OnOk, OnErr, map, reverse};
 ghost use Rattle.std.specs.Option.{option_map};
 ghost use Rattle.turk_base.specs.Names.{path_in};
 ghost use Rattle.turk_base.specs.State.{any_gone, give_value};
@@ -60,6 +60,7 @@ impl Machine {
         requires { needs value ≤ count self.old }
         ensures ok { OnOk result (Changes (λ nu σ. give_value (val_in nu value) σ) (seen_of self.old) (seen_of self.new)) }
         ensures err { IfErr result (λ e. e ≡ OpStop.Memory) }
+        ensures same { OnErr result (self.new ≡ self.old) }
     {
         if self.values.push(value).is_err() {
             return Err(OpStop::Memory);

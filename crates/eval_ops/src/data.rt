@@ -37,6 +37,7 @@ impl Machine {
         requires { needs value.now ≤ count self.old }
         ensures did { Performs (λ nu. taking (val_in nu value.now)) (λ nu. told_taken (λ d. d) result) (seen_of self.old) (seen_of self.new) }
         ensures cells { self.new.heap.cells ≡ self.old.heap.cells }
+        ensures gone { self.new.gone ≡ self.old.gone }
     {
         run_data::take(self.alloc, &mut self.heap, value)
     }

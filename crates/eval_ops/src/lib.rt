@@ -10,12 +10,15 @@ use value_cells::Value;
 
 mod begin;
 mod branches;
+mod chains;
 mod data;
 mod heap;
 mod looks;
 mod names;
 mod output;
 mod scopes;
+#[cfg(test)]
+mod tests;
 mod verdicts;
 
 /// A scope around the one that runs: whether it is in a once body, the values of its branches, and

@@ -34,12 +34,13 @@ halted_then {c} {g} {f} {σ} {τ} {υ} {w} {x} {y} {m} {h} l k a = record {
   at = a.at;
   left = a.left;
   like = a.like;
+  fuel = a.fuel;
   stops = subst (λ r. Stops c f σ w r) (add_add l m (res a.out a.at (record y { left = a.left }))) (k _ a.stops);
 }
 
 pub halted_as : {c : Place} {g f : Prog} {σ υ : St} {w y : Rest} {l : List Rec} {h : Halt} →
     ((r : Res) → Stops c g σ w r → Stops c f σ w r) → Halted c g σ w l h υ y → Halted c f σ w l h υ y
-halted_as k a = record { out = a.out; is = a.is; at = a.at; left = a.left; like = a.like; stops = k _ a.stops }
+halted_as k a = record { out = a.out; is = a.is; at = a.at; left = a.left; like = a.like; fuel = a.fuel; stops = k _ a.stops }
 
 always_stop : {c : Place} {g : Prog} {go : Outcome → Prog} {o : Outcome} {σ τ : St} {w x : Rest} {l : List Rec} {r : Res} →
     Ends c g o σ w τ x l → Stops c (go o) τ x r → Stops c (Always g go) σ w (add l r)

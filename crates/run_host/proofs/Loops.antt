@@ -28,6 +28,7 @@ pub record HaltedIn (c : Place) (n : ℕ) (g : Prog) (σ : St) (w : Rest) (l : L
   pub at : St
   pub left : ℕ
   pub like : Like at τ
+  pub fuel : GoesOn (Halts h) → left ≡ w'.left
   pub stops : StopsIn c n g σ w (add l (res out at (record w' { left = left })))
 
 -- what n turns at most come to
@@ -54,7 +55,7 @@ comes_loop : {c : Place} {g : Prog} {σ τ : St} {w w' : Rest} {l : List Rec} {n
     ComesIn c c.bound g σ w l next t τ w' → Comes c (Loop g) σ w l next t τ w'
 unfolding run
 comes_loop (says_in e) = says (loop e)
-comes_loop (halts_in h) = halts (record { out = h.out; is = h.is; at = h.at; left = h.left; like = h.like; stops = record { holds = λ k. h.stops.holds k } })
+comes_loop (halts_in h) = halts (record { out = h.out; is = h.is; at = h.at; left = h.left; like = h.like; fuel = h.fuel; stops = record { holds = λ k. h.stops.holds k } })
 comes_loop (fails_in e) = fails (loop_cut e)
 
 pub loop_runs : {g : Naming → Prog} {t : Naming → Told} {old new : Moment} → Turns g t old new → Runs (λ nu. Loop (g nu)) t old new
@@ -84,6 +85,7 @@ comes_turn {c} {n} {g} {σ = σ} {w = w} {y = y} {l = l} {m = m} e (halts_in k) 
   at = k.at;
   left = k.left;
   like = k.like;
+  fuel = k.fuel;
   stops = subst (λ r. StopsIn c (suc n) g σ w r) (add_add l m (res k.out k.at (record y { left = k.left }))) (stop_turn e k.stops);
 })
 comes_turn e (fails_in k) = fails_in (turn_then_cut e k)
@@ -115,7 +117,7 @@ last_turn : {c : Place} {n : ℕ} {g : Prog} {σ υ : St} {w y : Rest} {l : List
     Comes c g σ w l next t υ y → ComesIn c (suc n) g σ w l next t υ y
 unfolding turns
 last_turn z (says k) = says_in (turn_out z k)
-last_turn z (halts k) = halts_in (record { out = k.out; is = k.is; at = k.at; left = k.left; like = k.like; stops = record { holds = λ j. k.stops.holds _ } })
+last_turn z (halts k) = halts_in (record { out = k.out; is = k.is; at = k.at; left = k.left; like = k.like; fuel = k.fuel; stops = record { holds = λ j. k.stops.holds _ } })
 last_turn z (fails k) = fails_in (turn_cut k)
 
 -- the turn that ends the loop

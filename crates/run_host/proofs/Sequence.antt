@@ -62,7 +62,7 @@ refused {m} y = record {
   dealt = tt;
   moved = λ nu z. moves_none;
   shown = λ nu. tt;
-  ran = λ nu f E s b l c. halts (record { out = ended (bar (refusal_in y)); is = refl; at = m.heap.first nu; left = m.heap.left; like = record { text = refl; verdict = refl; gone = refl }; stops = record { holds = λ k. refl } });
+  ran = λ nu f E s b l c. halts (record { out = ended (bar (refusal_in y)); is = refl; at = m.heap.first nu; left = m.heap.left; like = record { text = refl; verdict = refl; gone = refl }; fuel = λ z. refl; stops = record { holds = λ k. refl } });
 }
 
 -- memory ran out, whatever the program

@@ -10,7 +10,7 @@ use Rattle.run_laws.proofs.Sequel.{Place, Ends, Stops}
 use Rattle.run_laws.proofs.Cuts.{Next, Cuts}
 use Rattle.ask_model.specs.declared.AskStop.{AskStop}
 use Rattle.run_host.specs.declared.Halt.{Halt}
-use Rattle.run_host.specs.Told.{Told, Says, Halts, Fails, IsOut}
+use Rattle.run_host.specs.Told.{Told, Says, Halts, Fails, GoesOn, IsOut}
 
 -- What is told of a run that halted: of its state the output, the verdict and the absent branches.
 pub record Like (at now : St) : Type 0 where
@@ -18,13 +18,14 @@ pub record Like (at now : St) : Type 0 where
   pub verdict : at.verdict ≡ now.verdict
   pub gone : at.gone ≡ now.gone
 
--- It halts there, and made l. The fuel that is left is not told.
+-- It halts there, and made l. The fuel that is left is told where a scope around can go on.
 pub record Halted (c : Place) (g : Prog) (σ : St) (w : Rest) (l : List Rec) (h : Halt) (τ : St) (w' : Rest) : Type 0 where
   pub out : Out
   pub is : IsOut h out
   pub at : St
   pub left : ℕ
   pub like : Like at τ
+  pub fuel : GoesOn (Halts h) → left ≡ w'.left
   pub stops : Stops c g σ w (add l (res out at (record w' { left = left })))
 
 -- `next` says what the run does at a call that was refused.

@@ -1,7 +1,9 @@
 //! The program: real words, files and streams for the top call.
 #![tactic(auto)]
 
-use outside::{FileSource, StdSink};
+use disk_model::FileDisk;
+use ledger_board::LedgerBoard;
+use outside::{FileSource, PcgDraws, StdSink};
 use std::env;
 use std::io::ErrorKind;
 use std::process::ExitCode;
@@ -34,16 +36,40 @@ fn run(rt: &HostRuntime) -> Status {
             return Status::Memory;
         }
     }
-    let path = words.get(1).copied().unwrap_or("");
-    let Ok(mut script) = FileSource::new(rt, rt.alloc(), path) else {
+    over_files(rt, words.as_slice())
+}
+
+/// The word at a place, or none where it is missing.
+fn word_at<'a>(words: &[&'a str], place: usize) -> &'a str {
+    words.get(place).copied().unwrap_or("")
+}
+
+/// Runs the command over the files that its words may name. A file that the command doesn't use is never opened.
+fn over_files(rt: &HostRuntime, words: &[&str]) -> Status {
+    let Ok(mut script) = FileSource::new(rt, rt.alloc(), word_at(words, 1)) else {
         return Status::Memory;
     };
+    let Ok(mut events) = FileSource::new(rt, rt.alloc(), word_at(words, 2)) else {
+        return Status::Memory;
+    };
+    let Ok(mut disk) = FileDisk::new(rt, rt.alloc(), word_at(words, 3)) else {
+        return Status::Memory;
+    };
+    let Ok(tasks) = FileDisk::new(rt, rt.alloc(), word_at(words, 4)) else {
+        return Status::Memory;
+    };
+    let mut board = LedgerBoard::new(rt.alloc(), tasks);
+    let mut draws = PcgDraws::new();
     let mut out = StdSink::out(rt.stdout());
     let mut notes = StdSink::notes(rt.stderr());
     turkit(
         rt.alloc(),
-        words.as_slice(),
+        words,
         &mut script,
+        &mut events,
+        &mut disk,
+        &mut board,
+        &mut draws,
         &mut out,
         &mut notes,
     )

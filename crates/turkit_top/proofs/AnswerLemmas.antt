@@ -1,98 +1,124 @@
 -- How the top call's steps give its answer.
-use Rattle.std.proofs.Common.{◌≡◌, ℕ, ◌≤◌, List, [], take, length, Bool, true, false, Option, Ok, Err, ◌<◌, refl, sym, ap, subst, ◌∙◌}
+use Rattle.std.proofs.Common.{◌≡◌, ℕ, ◌≤◌, List, [], take, length, Bool, true, false, Option, None, Result, Err, refl, sym, subst}
+use Rattle.std.specs.Result.{MatchResult}
 use Rattle.std.specs.Io.KnownBytes.{Appends, Consumes, IsAtEnd}
 use Rattle.outside.specs.Faults.{Rose}
-use Rattle.outside.specs.Reading.{HasCause}
+use Rattle.outside.specs.Reading.{HasCause as HasReadCause}
 use Rattle.outside.specs.declared.source.ReadStop.{ReadStop}
-use Rattle.outside.specs.declared.source.ReadStop.TheVariants.{Fault, TooLarge as TooLargeStop}
-use Rattle.turkit_top.specs.Answers.{IsAnswer, IsAnswerOf, IsAnswerOn, IsDue, IsGiven, Writing, is_plain, ending, refused, fault_note, note_of, nothing, ran, long, not_built, no_memory, read, no_script, memory_for_note, of_bytes, read_fault, too_large, memory, wrong_words, of_source, given, out_failed, notes_failed}
-use Rattle.js_tree.specs.declared.Script as tree
-use Rattle.script_front.specs.Front.{IsRead}
+use Rattle.outside.specs.declared.source.ReadStop.TheVariants as read
+use Rattle.ask_model.specs.Asker.{AreReplies}
+use Rattle.reply_text.specs.Lines.{Reads, HasCause, lines_of, no_lines, blank_line, reply_line}
+use Rattle.reply_text.specs.declared.LineStop.{LineStop}
+use Rattle.reply_text.specs.declared.LineStop.TheVariants as line
+use Rattle.command_words.specs.Words.{command_of}
+use Rattle.command_words.specs.Options.{Answers}
+use Rattle.command_words.specs.declared.Command.{Command}
+use Rattle.command_words.specs.declared.WordStop.{WordStop}
+use Rattle.command_words.specs.declared.WordStop.TheVariants as words
+use Rattle.rerun_driver.specs.Plain.{plain_world}
+use Rattle.turk_base.specs.declared.Settings.{Settings}
+use Rattle.turk_base.specs.Names.{Units}
 use Rattle.script_front.specs.declared.ScriptStop.{ScriptStop}
 use Rattle.script_front.specs.declared.ScriptStop.TheVariants as why
-use Rattle.small_script.specs.Meaning.{writes}
-use Rattle.small_script.specs.Small.{IsSmall, NoSmall, Unless}
-use Rattle.small_script.specs.declared.runner.Ran.{Ran}
-use Rattle.small_script.specs.declared.stop.Stop.{Stop}
-use Rattle.small_script.specs.declared.stop.Stop.TheVariants.{NotBuilt as NotBuiltStop}
-use Rattle.small_script.specs.declared.tree.Statement.{Statement}
-use Rattle.turkit_top.specs.declared.status.Status.TheVariants.{Syntax, WriteFault, Memory, NotBuilt, ReadFault, TooLarge}
-use Rattle.turkit_top.specs.declared.top.Answer.{Answer}
+use Rattle.turkit_top.specs.Notes.{fault_note, line_note}
+use Rattle.turkit_top.specs.Answers.{nothing, noted, note_by, note_of, fault_answer, line_answer, IsDue, Reading, Gives, IsUnread, fault, too_large, unread_memory, IsUnused, script_limit, replies_limit, HasReplies, unasked, of_lines, NoReplies, bad_line, IsRun, IsPlainAnswer, ran, IsAnswer, no_command, no_memory, Writing, IsGiven, given, out_failed, notes_failed}
+use Rattle.turkit_top.specs.declared.status.Status.{Status}
+use Rattle.turkit_top.specs.declared.status.Status.TheVariants.{Finished, Ended, Usage, Syntax, Waiting, Spent, ReadFault, DiskFault, BoardFault, WriteFault, Memory, BadJournal, OtherJournal, Diverged, BadLine, Full, TooLarge, Stopped, NotBuilt}
+use Rattle.turkit_top.specs.declared.answer.Answer.{Answer}
 
--- ---- the tree
+-- ---- notes
 
-pub tree_ran : (size : ℕ) (script : tree.Script) (r : Ran) (a : Answer) → size ≤ 65536 → ((ss : List Statement) × IsSmall script ss × (r ≡ writes [] ss)) → a ≡ ending r → IsAnswerOn size script a
-tree_ran size script r a few (ss, small, e) is = subst (λ x. IsAnswerOn size script x) (sym (is ∙ ap ending e)) (ran few small)
+-- the statuses that tell no note
+pub own_note : (s : Status) (own : List ℕ) → (s ≡ Usage → ⊥) → (s ≡ ReadFault → ⊥) → (s ≡ Memory → ⊥) → (s ≡ NotBuilt → ⊥) → note_by s own ≡ own
+own_note Finished own u r m n = refl
+own_note Ended own u r m n = refl
+own_note Usage own u r m n = absurd (u refl)
+own_note Syntax own u r m n = refl
+own_note Waiting own u r m n = refl
+own_note Spent own u r m n = refl
+own_note ReadFault own u r m n = absurd (r refl)
+own_note DiskFault own u r m n = refl
+own_note BoardFault own u r m n = refl
+own_note WriteFault own u r m n = refl
+own_note Memory own u r m n = absurd (m refl)
+own_note BadJournal own u r m n = refl
+own_note OtherJournal own u r m n = refl
+own_note Diverged own u r m n = refl
+own_note BadLine own u r m n = refl
+own_note Full own u r m n = refl
+own_note TooLarge own u r m n = refl
+own_note Stopped own u r m n = refl
+own_note NotBuilt own u r m n = absurd (n refl)
 
-pub tree_long : (size : ℕ) (script : tree.Script) (a : Answer) → 65536 < size → a ≡ nothing NotBuilt → IsAnswerOn size script a
-tree_long size script a many is = subst (λ x. IsAnswerOn size script x) (sym is) (long many)
+-- the faults of a script that have a note
+pub noted_fault : (stop : ScriptStop) → (stop ≡ why.TooLarge → ⊥) → (stop ≡ why.Memory → ⊥) → fault_answer stop ≡ noted Syntax (fault_note stop)
+noted_fault (why.NotUtf8 place) f g = refl
+noted_fault (why.BadToken place) f g = refl
+noted_fault (why.NumberForm place) f g = refl
+noted_fault (why.Syntax place) f g = refl
+noted_fault why.Nesting f g = refl
+noted_fault (why.LeftOut place x) f g = refl
+noted_fault why.TooManyNames f g = refl
+noted_fault why.TooLarge f g = absurd (f refl)
+noted_fault why.Memory f g = absurd (g refl)
 
-pub tree_not_built : (size : ℕ) (script : tree.Script) (e : Stop) (a : Answer) → Unless e (NoSmall script) → e ≡ NotBuiltStop → a ≡ nothing NotBuilt → IsAnswerOn size script a
-tree_not_built size script e a u stop is = subst (λ x. IsAnswerOn size script x) (sym is) (not_built (subst (λ s. Unless s (NoSmall script)) stop u))
+-- ---- replies
 
-pub tree_memory : (size : ℕ) (script : tree.Script) (a : Answer) → a ≡ nothing Memory → IsAnswerOn size script a
-tree_memory size script a is = subst (λ x. IsAnswerOn size script x) (sym is) no_memory
+-- the replies of lines are within the limits of a run
+pub are_replies : {lines : List (List ℕ)} {pairs : List (Units × Units)} → Reads lines pairs → AreReplies pairs
+are_replies no_lines = tt
+are_replies (blank_line b r) = are_replies r
+are_replies (reply_line b is le r) = ((is.token_is.1, is.answer_is.1), are_replies r)
 
--- ---- the bytes
+-- ---- sources
 
-pub no_tree : (bytes : List ℕ) (stop : ScriptStop) (a : Answer) → IsRead bytes (Err stop) → a ≡ refused stop → IsAnswerOf bytes a
-no_tree bytes stop a e is = subst (λ x. IsAnswerOf bytes x) (sym is) (no_script stop e)
+pub gives : (limit : ℕ) (s : Reading) (bytes seen : List ℕ) → Consumes s.left s.rest bytes → IsAtEnd s.rest → length bytes ≤ limit → seen ≡ bytes → Gives limit s seen
+gives limit s bytes seen all end within same = subst (λ l. Gives limit s l) (sym same) (record { all = all; end = end; within = within })
 
-pub no_tree_for : (bytes : List ℕ) (stop known : ScriptStop) (a : Answer) → IsRead bytes (Err stop) → stop ≡ known → a ≡ refused known → IsAnswerOf bytes a
-no_tree_for bytes stop known a e same is = no_tree bytes stop a e (is ∙ sym (ap refused same))
+pub source_fault : (limit : ℕ) (large : List ℕ) (s : Reading) (e : ReadStop) (a : Answer) → HasReadCause s.before s.now s.left limit e → e ≡ read.Fault → a ≡ nothing ReadFault → IsUnread limit large s a
+source_fault limit large s e a cause stop is = subst (λ x. IsUnread limit large s x) (sym is) (fault (subst (λ x. HasReadCause s.before s.now s.left limit x) stop cause))
 
--- the answers that have a note of their own
-pub noted : (stop : ScriptStop) → (stop ≡ why.TooLarge → ⊥) → (stop ≡ why.Memory → ⊥) → refused stop ≡ record { status = Syntax; output = []; note = fault_note stop }
-noted (why.NotUtf8 place) f g = refl
-noted (why.BadToken place) f g = refl
-noted (why.NumberForm place) f g = refl
-noted (why.Syntax place) f g = refl
-noted why.Nesting f g = refl
-noted (why.LeftOut place x) f g = refl
-noted why.TooManyNames f g = refl
-noted why.TooLarge f g = absurd (f refl)
-noted why.Memory f g = absurd (g refl)
+pub source_large : (limit : ℕ) (large : List ℕ) (s : Reading) (e : ReadStop) (a : Answer) → HasReadCause s.before s.now s.left limit e → e ≡ read.TooLarge → IsDue (noted TooLarge large) a → IsUnread limit large s a
+source_large limit large s e a cause stop is = too_large (subst (λ x. HasReadCause s.before s.now s.left limit x) stop cause) is
 
-pub with_note : (bytes : List ℕ) (stop : ScriptStop) (out note : List ℕ) → IsRead bytes (Err stop) → (stop ≡ why.TooLarge → ⊥) → (stop ≡ why.Memory → ⊥) → out ≡ [] → note ≡ fault_note stop
-    → IsAnswerOf bytes (record { status = Syntax; output = out; note = note })
-with_note bytes stop out note e f g o n = no_tree bytes stop _ e
-    (ap (λ x. record { status = Syntax; output = x; note = note }) o ∙ ap (λ x. record { status = Syntax; output = []; note = x }) n ∙ sym (noted stop f g))
+pub source_memory : (limit : ℕ) (large : List ℕ) (s : Reading) (a : Answer) → a ≡ nothing Memory → IsUnread limit large s a
+source_memory limit large s a is = subst (λ x. IsUnread limit large s x) (sym is) unread_memory
 
-pub answer_memory : (bytes : List ℕ) (a : Answer) → a ≡ nothing Memory → IsAnswerOf bytes a
-answer_memory bytes a is = subst (λ x. IsAnswerOf bytes x) (sym is) memory_for_note
+-- the notes on lines
+pub noted_line : (stop : LineStop) → (stop ≡ line.Memory → ⊥) → line_answer stop ≡ noted BadLine (line_note stop)
+noted_line (line.BadLine n) f = refl
+noted_line (line.TooLong n) f = refl
+noted_line line.Memory f = absurd (f refl)
 
-pub answer_tree : (bytes : List ℕ) (script lent : tree.Script) (size : ℕ) (a : Answer) → IsRead bytes (Ok script) → lent ≡ script → size ≡ length bytes → IsAnswerOn size lent a → IsAnswerOf bytes a
-answer_tree bytes script lent size a e is same on = read e (subst (λ n. IsAnswerOn n script a) same (subst (λ x. IsAnswerOn size x a) is on))
+pub replies_read : (s : Reading) (bytes seen : List ℕ) (pairs : List (Units × Units)) → Gives replies_limit s bytes → seen ≡ bytes → Reads (lines_of seen) pairs → HasReplies true s pairs
+replies_read s bytes seen pairs g same r = of_lines refl g (subst (λ l. Reads (lines_of l) pairs) same r)
 
--- ---- the source
+pub replies_unread : (s : Reading) (bytes seen : List ℕ) (stop : LineStop) (a : Answer) → Gives replies_limit s bytes → seen ≡ bytes → HasCause (lines_of seen) stop → IsDue (line_answer stop) a → NoReplies true s a
+replies_unread s bytes seen stop a g same cause is = bad_line stop refl g (subst (λ l. HasCause (lines_of l) stop) same cause) is
 
-pub due_bytes : (before now : ℕ) (left rest : Option (List ℕ)) (bytes seen : List ℕ) (a : Answer) → Consumes left rest bytes → IsAtEnd rest → length bytes ≤ 1048576
-    → seen ≡ bytes → IsAnswerOf seen a → IsDue before now left rest a
-due_bytes before now left rest bytes seen a all at_end within same is = of_bytes all at_end within (subst (λ l. IsAnswerOf l a) same is)
+pub asked_so : (b : Bool) (s : Reading) (r : Result (List (Units × Units)) Answer) → b ≡ true → MatchResult r (λ pairs. HasReplies true s pairs) (λ a. NoReplies true s a)
+    → MatchResult r (λ pairs. HasReplies b s pairs) (λ a. NoReplies b s a)
+asked_so b s r is h = subst (λ x. MatchResult r (λ pairs. HasReplies x s pairs) (λ a. NoReplies x s a)) (sym is) h
 
-pub due_fault : (before now : ℕ) (left rest : Option (List ℕ)) (e : ReadStop) (a : Answer) → HasCause before now left 1048576 e → e ≡ Fault
-    → a ≡ nothing ReadFault → IsDue before now left rest a
-due_fault before now left rest e a cause stop is =
-    subst (λ x. IsDue before now left rest x) (sym is) (read_fault (subst (λ s. HasCause before now left 1048576 s) stop cause))
+pub not_asked : (b : Bool) (s : Reading) (pairs : List (Units × Units)) → b ≡ false → IsUnused s → pairs ≡ [] → HasReplies b s pairs
+not_asked b s pairs is unused none = subst (λ l. HasReplies b s l) (sym none) (unasked is unused)
 
-pub due_too_large : (before now : ℕ) (left rest : Option (List ℕ)) (e : ReadStop) (a : Answer) → HasCause before now left 1048576 e → e ≡ TooLargeStop
-    → a ≡ nothing TooLarge → IsDue before now left rest a
-due_too_large before now left rest e a cause stop is =
-    subst (λ x. IsDue before now left rest x) (sym is) (too_large (subst (λ s. HasCause before now left 1048576 s) stop cause))
+-- ---- the run
 
-pub due_memory : (before now : ℕ) (left rest : Option (List ℕ)) (a : Answer) → a ≡ nothing Memory → IsDue before now left rest a
-due_memory before now left rest a is = subst (λ x. IsDue before now left rest x) (sym is) memory
+pub plain_ran : (word : ℕ → ℕ → ℕ) (asked : Bool) (t : Settings) (s e : Reading) (bytes seen : List ℕ) (pairs : List (Units × Units)) (a : Answer) → Gives script_limit s bytes → HasReplies asked e pairs → seen ≡ bytes
+    → IsRun seen (plain_world t.name pairs (word t.dice)) t.fuel a → IsPlainAnswer word asked t s e a
+plain_ran word asked t s e bytes seen pairs a g h same r = ran g h (subst (λ l. IsRun l (plain_world t.name pairs (word t.dice)) t.fuel a) same r)
 
--- ---- the words
+-- ---- a command
 
-pub answer_wrong_words : (words : List (List ℕ)) (before now : ℕ) (left rest : Option (List ℕ)) (a : Answer) (b : Bool) → b ≡ is_plain words → b ≡ false
-    → now ≡ before → rest ≡ left → a ≡ nothing NotBuilt → IsAnswer words before now left rest a
-answer_wrong_words words before now left rest a b e wrong same kept is =
-    subst (λ x. IsAnswer words before now left rest x) (sym is) (wrong_words (sym e ∙ wrong) same kept)
+pub no_words : (due : Option Command) (stop : WordStop) → Answers due (Err stop) → stop ≡ words.Usage → due ≡ None
+no_words due stop h is = subst (λ x. Answers due (Err x)) is h
 
-pub answer_source : (words : List (List ℕ)) (before now : ℕ) (left rest : Option (List ℕ)) (a : Answer) (b : Bool) → b ≡ is_plain words → b ≡ true
-    → IsDue before now left rest a → IsAnswer words before now left rest a
-answer_source words before now left rest a b e right due = of_source (sym e ∙ right) due
+pub words_wrong : (word : ℕ → ℕ → ℕ) (words : List (List ℕ)) (s e : Reading) (a : Answer) → command_of words ≡ None → IsUnused s → IsUnused e → a ≡ nothing Usage → IsAnswer word words s e a
+words_wrong word words s e a none us ue is = subst (λ x. IsAnswer word words s e x) (sym is) (no_command none us ue)
+
+pub words_memory : (word : ℕ → ℕ → ℕ) (words : List (List ℕ)) (s e : Reading) (a : Answer) → IsUnused s → IsUnused e → a ≡ nothing Memory → IsAnswer word words s e a
+words_memory word words s e a us ue is = subst (λ x. IsAnswer word words s e x) (sym is) (no_memory us ue)
 
 -- ---- the sinks
 

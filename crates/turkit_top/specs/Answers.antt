@@ -1,125 +1,165 @@
 -- What a command is to answer, and what it wrote (own rule).
-use Rattle.std.specs.Prelude.{◌≡◌, ℕ, ◌≤◌, ◌<◌, List, [], ◌∷◌, ◌++◌, decimal, ◌⊎◌, Bool, true, false, ◌&&◌, ◌==◌, not, codes, length, take, Option, Ok, Err, IfSome, nat_eq, if◌then◌else◌}
-use Rattle.std.specs.Cmp.Lexicographic.{pointwise}
+use Rattle.std.specs.Prelude.{◌≡◌, ℕ, ◌≤◌, ◌<◌, ◌⊎◌, List, [], Bool, true, false, codes, length, take, Option, Some, None, Ok, Err, IfSome, if◌then◌else◌}
 use Rattle.std.specs.Io.KnownBytes.{Appends, Consumes, IsAtEnd}
 use Rattle.outside.specs.Faults.{Rose}
-use Rattle.js_tree.specs.declared.Script as tree
-use Rattle.script_front.specs.Front.{IsRead}
+use Rattle.turk_base.specs.Names.{Units}
+use Rattle.turk_base.specs.declared.Settings.{Settings}
+use Rattle.js_tree.specs.World.{World}
+use Rattle.reply_text.specs.Lines.{lines_of, Reads, HasCause}
+use Rattle.reply_text.specs.declared.LineStop.{LineStop}
+use Rattle.reply_text.specs.declared.LineStop.TheVariants as line
 use Rattle.script_front.specs.declared.ScriptStop.{ScriptStop}
 use Rattle.script_front.specs.declared.ScriptStop.TheVariants as why
-use Rattle.script_grammar.specs.declared.Form.{Form}
-use Rattle.script_grammar.specs.declared.Form.TheVariants as form
-use Rattle.small_script.specs.Meaning.{writes}
-use Rattle.small_script.specs.Small.{IsSmall, NoSmall}
-use Rattle.small_script.specs.declared.runner.Ran.{Ran}
-use Rattle.small_script.specs.declared.tree.Statement.{Statement}
+use Rattle.script_run.specs.declared.End.{End}
+use Rattle.script_run.specs.declared.End.TheVariants as end
+use Rattle.rerun_driver.specs.Plain.{IsPlain, plain_world}
+use Rattle.rerun_driver.specs.declared.Report.{Report}
+use Rattle.rerun_driver.specs.declared.Stop.{Stop}
+use Rattle.rerun_driver.specs.declared.Stop.TheVariants as stop
+use Rattle.command_words.specs.Words.{command_of}
+use Rattle.command_words.specs.declared.Command.{Command}
+use Rattle.command_words.specs.declared.Command.TheVariants as command
+use Rattle.turkit_top.specs.Notes.{fault_note, line_note, run_note, is_ended, usage}
 use Rattle.turkit_top.specs.declared.status.Status.{Status}
-use Rattle.turkit_top.specs.declared.status.Status.TheVariants.{Finished, Ended, Syntax, ReadFault, WriteFault, Memory, TooLarge, NotBuilt}
-use Rattle.turkit_top.specs.declared.top.Answer.{Answer}
+use Rattle.turkit_top.specs.declared.status.Status.TheVariants.{Finished, Ended, Usage, Syntax, Waiting, Spent, ReadFault, WriteFault, Memory, BadLine, Full, TooLarge, NotBuilt}
+use Rattle.turkit_top.specs.declared.answer.Answer.{Answer}
 
--- ---- words
+-- ---- answers
 
--- A word in a file's place isn't empty and doesn't begin with `-`.
-abbrev pub is_file : List ℕ → Bool
-is_file [] = false
-is_file (b ∷ bs) = not (b == 45)
-
--- The words are `plain` and a file's.
-abbrev pub is_plain : List (List ℕ) → Bool
-is_plain [] = false
-is_plain (w ∷ []) = false
-is_plain (w ∷ file ∷ []) = pointwise nat_eq w (codes "plain") && is_file file
-is_plain (w ∷ v ∷ u ∷ ws) = false
-
--- ---- the answer
-
--- ---- the notes on a script that is none
-
-abbrev pub form_name : Form → List ℕ
-form_name form.With = codes "With"
-form_name form.Eval = codes "Eval"
-form_name form.Arguments = codes "Arguments"
-form_name form.RegExp = codes "RegExp"
-form_name form.Label = codes "Label"
-form_name form.Elision = codes "Elision"
-form_name form.Delete = codes "Delete"
-
--- A text, a place and a line feed.
-abbrev pub at_byte : List ℕ → ℕ → List ℕ
-at_byte text place = text ++ decimal place ++ codes "\n"
-
--- A text, a place and the form that stands there.
-abbrev pub at_form : ℕ → Form → List ℕ
-at_form place x = codes "left out at byte " ++ decimal place ++ codes ": " ++ form_name x ++ codes "\n"
-
--- The note on a script that is none; that it is too large or that memory ran out are no such notes.
-abbrev pub fault_note : ScriptStop → List ℕ
-fault_note (why.NotUtf8 place) = at_byte (codes "not UTF-8 at byte ") place
-fault_note (why.BadToken place) = at_byte (codes "bad token at byte ") place
-fault_note (why.NumberForm place) = at_byte (codes "number form at byte ") place
-fault_note (why.Syntax place) = at_byte (codes "syntax error at byte ") place
-fault_note why.Nesting = codes "nesting over 200\n"
-fault_note (why.LeftOut place x) = at_form place x
-fault_note why.TooManyNames = codes "too many names\n"
-fault_note why.TooLarge = []
-fault_note why.Memory = []
-
--- A status with no output and no note of its own.
+-- a status with no output and no note of its own
 abbrev pub nothing : Status → Answer
 nothing status = record { status = status; output = []; note = [] }
 
--- What is answered on a script that is none.
-abbrev pub refused : ScriptStop → Answer
-refused why.TooLarge = nothing TooLarge
-refused why.Memory = nothing Memory
-refused stop = record { status = Syntax; output = []; note = fault_note stop }
+-- a status with no output and a note of its own
+abbrev pub noted : Status → List ℕ → Answer
+noted status note = record { status = status; output = []; note = note }
 
--- How a run ends: with what it wrote, and whether it was refused.
-abbrev pub ending : Ran → Answer
-ending ran = record { status = if ran.finished then Finished else Ended; output = ran.output; note = [] }
+-- The answer is the one that is due, or want of memory, which has no cause.
+abbrev pub IsDue : Answer → Answer → Type 0
+IsDue due a = (a ≡ due) ⊎ (a ≡ nothing Memory)
 
--- What the tree of so many bytes comes to: at most 65,536 bytes of what is built run. Want of memory has no cause here.
-pub data IsAnswerOn (size : ℕ) (script : tree.Script) : Answer → Type 0 where
-  ran : {ss : List Statement} → size ≤ 65536 → IsSmall script ss → IsAnswerOn size script (ending (writes [] ss))
-  long : 65536 < size → IsAnswerOn size script (nothing NotBuilt)
-  not_built : NoSmall script → IsAnswerOn size script (nothing NotBuilt)
-  no_memory : IsAnswerOn size script (nothing Memory)
-
--- What a script's bytes come to.
-pub data IsAnswerOf (bytes : List ℕ) : Answer → Type 0 where
-  read : {script : tree.Script} {a : Answer} → IsRead bytes (Ok script) → IsAnswerOn (length bytes) script a → IsAnswerOf bytes a
-  no_script : (stop : ScriptStop) → IsRead bytes (Err stop) → IsAnswerOf bytes (refused stop)
-  memory_for_note : IsAnswerOf bytes (nothing Memory)
-
--- What a source comes to, by its faults and the bytes that it had left, before and after.
-pub data IsDue (before now : ℕ) (left rest : Option (List ℕ)) : Answer → Type 0 where
-  of_bytes : {bytes : List ℕ} {a : Answer} → Consumes left rest bytes → IsAtEnd rest → length bytes ≤ 1048576 → IsAnswerOf bytes a → IsDue before now left rest a
-  read_fault : Rose before now → IsDue before now left rest (nothing ReadFault)
-  too_large : IfSome left (λ bytes. 1048576 < length bytes) → IsDue before now left rest (nothing TooLarge)
-  memory : IsDue before now left rest (nothing Memory)
-
--- What a command comes to, by its words and by what its source comes to. Wrong words leave the source alone.
-pub data IsAnswer (words : List (List ℕ)) (before now : ℕ) (left rest : Option (List ℕ)) : Answer → Type 0 where
-  wrong_words : is_plain words ≡ false → now ≡ before → rest ≡ left → IsAnswer words before now left rest (nothing NotBuilt)
-  of_source : {a : Answer} → is_plain words ≡ true → IsDue before now left rest a → IsAnswer words before now left rest a
-
--- ---- what was written
-
--- The note of a status; a script that is none has one of its own.
+-- the note of an answer, which its status tells, or which is its own
 abbrev pub note_by : Status → List ℕ → List ℕ
-note_by Finished own = []
-note_by Ended own = codes "refused NotWhole\n"
-note_by Syntax own = own
+note_by Usage own = usage
 note_by ReadFault own = codes "read fault\n"
-note_by WriteFault own = []
 note_by Memory own = codes "no memory\n"
-note_by TooLarge own = codes "script too large\n"
 note_by NotBuilt own = codes "not built\n"
+note_by status own = own
 
 abbrev pub note_of : Answer → List ℕ
 note_of a = note_by a.status a.note
 
--- The faults of a sink and the bytes written to it, before and after.
+-- ---- sources
+
+-- the faults of a source and the bytes that it has left, before and after
+pub record Reading : Type 0 where
+  pub before : ℕ
+  pub now : ℕ
+  pub left : Option (List ℕ)
+  pub rest : Option (List ℕ)
+
+-- it was not called
+abbrev pub IsUnused : Reading → Type 0
+IsUnused s = (s.now ≡ s.before) × (s.rest ≡ s.left)
+
+-- it gave all its bytes, at most so many
+pub record Gives (limit : ℕ) (s : Reading) (bytes : List ℕ) : Type 0 where
+  pub all : Consumes s.left s.rest bytes
+  pub end : IsAtEnd s.rest
+  pub within : length bytes ≤ limit
+
+-- what is answered where it gave none: it failed, or there were more bytes, of which this is the note. Want of memory has no cause here.
+pub data IsUnread (limit : ℕ) (large : List ℕ) (s : Reading) : Answer → Type 0 where
+  fault : Rose s.before s.now → IsUnread limit large s (nothing ReadFault)
+  too_large : {a : Answer} → IfSome s.left (λ bytes. limit < length bytes) → IsDue (noted TooLarge large) a → IsUnread limit large s a
+  unread_memory : IsUnread limit large s (nothing Memory)
+
+abbrev pub script_limit : ℕ
+script_limit = 1048576
+
+abbrev pub large_script : List ℕ
+large_script = codes "script too large\n"
+
+abbrev pub replies_limit : ℕ
+replies_limit = 67108864
+
+abbrev pub large_replies : List ℕ
+large_replies = codes "replies too large\n"
+
+-- ---- replies
+
+abbrev pub line_answer : LineStop → Answer
+line_answer line.Memory = nothing Memory
+line_answer stop = noted BadLine (line_note stop)
+
+-- the replies of a run: those of the lines of a source, or none, where none are asked for
+pub data HasReplies (asked : Bool) (s : Reading) : List (Units × Units) → Type 0 where
+  unasked : asked ≡ false → IsUnused s → HasReplies asked s []
+  of_lines : {bytes : List ℕ} {pairs : List (Units × Units)} → asked ≡ true → Gives replies_limit s bytes → Reads (lines_of bytes) pairs → HasReplies asked s pairs
+
+-- what is answered where there are none
+pub data NoReplies (asked : Bool) (s : Reading) : Answer → Type 0 where
+  unread : {a : Answer} → asked ≡ true → IsUnread replies_limit large_replies s a → NoReplies asked s a
+  bad_line : {bytes : List ℕ} {a : Answer} (stop : LineStop) → asked ≡ true → Gives replies_limit s bytes → HasCause (lines_of bytes) stop → IsDue (line_answer stop) a → NoReplies asked s a
+
+-- ---- a run
+
+abbrev pub status_of : End → Status
+status_of end.Finished = Finished
+status_of (end.Uncaught text) = Ended
+status_of (end.Refused why) = Ended
+status_of (end.Waiting waits) = Waiting
+status_of end.Spent = Spent
+
+-- the output, where the run ended
+abbrev pub output_of : Report → List ℕ
+output_of r = if is_ended r.end then r.output else []
+
+-- what is answered on a report
+abbrev pub report_answer : Report → Answer
+report_answer r = record { status = status_of r.end; output = output_of r; note = run_note r }
+
+-- what is answered on bytes that are no script
+abbrev pub fault_answer : ScriptStop → Answer
+fault_answer why.TooLarge = noted TooLarge large_script
+fault_answer why.Memory = nothing Memory
+fault_answer stop = noted Syntax (fault_note stop)
+
+-- what is answered where there is no report; a plain run has these causes alone
+abbrev pub stop_answer : Stop → Answer
+stop_answer (stop.Script x) = fault_answer x
+stop_answer stop.TraceFull = noted Full (codes "trace full\n")
+stop_answer other = nothing Memory
+
+-- what a plain run of these bytes comes to, in a world and with so much fuel
+pub data IsRun (bytes : List ℕ) (E : World) (fuel : ℕ) : Answer → Type 0 where
+  told : {a : Answer} (r : Report) → IsPlain bytes E fuel (Ok r) → IsDue (report_answer r) a → IsRun bytes E fuel a
+  refused : {a : Answer} (why : Stop) → IsPlain bytes E fuel (Err why) → IsDue (stop_answer why) a → IsRun bytes E fuel a
+
+-- ---- a command
+
+-- What the command of a plain run comes to, by its two sources, where the words of the draws are known: the script is read, then the
+-- replies, and then it runs.
+pub data IsPlainAnswer (word : ℕ → ℕ → ℕ) (asked : Bool) (t : Settings) (s e : Reading) : Answer → Type 0 where
+  no_script : {a : Answer} → IsUnread script_limit large_script s a → IsUnused e → IsPlainAnswer word asked t s e a
+  no_replies : {bytes : List ℕ} {a : Answer} → Gives script_limit s bytes → NoReplies asked e a → IsPlainAnswer word asked t s e a
+  ran : {bytes : List ℕ} {pairs : List (Units × Units)} {a : Answer} → Gives script_limit s bytes → HasReplies asked e pairs
+      → IsRun bytes (plain_world t.name pairs (word t.dice)) t.fuel a → IsPlainAnswer word asked t s e a
+
+-- what a command comes to; one that is not built leaves the sources alone
+abbrev pub IsCommandAnswer : (ℕ → ℕ → ℕ) → Command → Reading → Reading → Answer → Type 0
+IsCommandAnswer word (command.Plain asked t) s e a = IsPlainAnswer word asked t s e a
+IsCommandAnswer word other s e a = IsUnused s × IsUnused e × (a ≡ nothing NotBuilt)
+
+-- What words come to, by the sources. Words that are no command leave the sources alone.
+pub data IsAnswer (word : ℕ → ℕ → ℕ) (words : List (List ℕ)) (s e : Reading) : Answer → Type 0 where
+  no_command : command_of words ≡ None → IsUnused s → IsUnused e → IsAnswer word words s e (nothing Usage)
+  by_command : {a : Answer} (c : Command) → command_of words ≡ Some c → IsCommandAnswer word c s e a → IsAnswer word words s e a
+  no_memory : IsUnused s → IsUnused e → IsAnswer word words s e (nothing Memory)
+
+-- ---- what was written
+
+-- the faults of a sink and the bytes written to it, before and after
 pub record Writing : Type 0 where
   pub before : ℕ
   pub now : ℕ

@@ -1,7 +1,11 @@
 //! The top call: a command's words, a script's bytes, its output and the notes.
 #![tactic(auto)]
 
-mod notes;
+mod answer;
+mod fault_notes;
+mod report;
+mod run_notes;
+mod sources;
 mod status;
 mod top;
 

@@ -1,146 +1,91 @@
 //! The top call.
 
-ghost use Rattle.std.specs.Prelude.{◌≡◌, ◌≤◌, [], Err, codes, map, length};
-ghost use Rattle.script_front.specs.Front.{IsRead};
-ghost use Rattle.turkit_top.specs.Answers.{IsAnswer, IsAnswerOf, IsAnswerOn, IsDue, IsGiven, is_file, is_plain, ending, note_of, nothing};
-ghost use Rattle.turkit_top.specs.declared.top.Answer.{Answer};
+ghost use Rattle.std.specs.Prelude.{◌≡◌, ◌≤◌, map};
+ghost use Rattle.turkit_top.specs.Answers.{IsPlainAnswer, IsCommandAnswer, IsAnswer, IsGiven};
+ghost use Rattle.command_words.specs.Words.{IsWithin};
+ghost use Rattle.turkit_top.specs.declared.answer.Answer.{Answer};
 
-use crate::notes::fault_note;
+use crate::answer::{Answer, note_of, nothing};
+use crate::report::of_run;
+use crate::sources::{replies_of, script_bytes};
 use crate::status::Status;
-use js_tree::Script;
-use outside::{ReadStop, Sink, Source, read_all, write_all};
-use script_front::{ScriptStop, read_script};
-use small_script::{Ran, Stop, run_small};
+use board_model::Board;
+use command_words::{Command, WordStop, read_words};
+use disk_model::Disk;
+use outside::{Draws, Sink, Source, write_all};
 use std::alloc::Global;
-use turk_base::Bytes;
+use turk_base::Settings;
 
-/// The most bytes of a script.
-const LIMIT: u64 = 1_048_576;
-
-/// The most bytes of a script of what is built.
-const MOST_BYTES: usize = 65_536;
-
-/// What is to be answered: the status, and the output that goes with it.
-#[derive(Drop)]
-pub struct Answer {
-    pub status: Status,
-    pub output: Bytes,
-    /// The note on a script that is none; empty with any other status.
-    pub note: Bytes,
-}
-
-fn without_output(alloc: Global, status: Status) -> Answer
-    ensures { result ≡ nothing status }
+/// What the command of a plain run comes to.
+fn of_plain<S: Source, W: Draws>(
+    alloc: Global,
+    asked: bool,
+    settings: &Settings,
+    script: &mut S,
+    events: &mut S,
+    draws: &mut W,
+) -> Answer
+    requires { settings.now.fuel ≤ 20000000 }
+    ensures script_count { S.faults script.old ≤ S.faults script.new }
+    ensures events_count { S.faults events.old ≤ S.faults events.new }
+    ensures answer { IsPlainAnswer W.words asked settings.now
+        (record { before = S.faults script.old; now = S.faults script.new; left = S.left script.old; rest = S.left script.new })
+        (record { before = S.faults events.old; now = S.faults events.new; left = S.left events.old; rest = S.left events.new }) result }
 {
-    Answer {
-        status,
-        output: Bytes::new(alloc),
-        note: Bytes::new(alloc),
-    }
-}
-
-/// The words are `plain` and one word that isn't empty and doesn't begin with `-`.
-fn plain(words: &[&str]) -> bool
-    ensures { result ≡ is_plain (map (λ w. w.now) words.now) }
-{
-    if words.len() != 2 {
-        return false;
-    }
-    words[0].as_bytes() == b"plain".as_slice() && file(words[1].as_bytes())
-}
-
-fn file(word: &[u8]) -> bool
-    ensures { result ≡ is_file word.now }
-{
-    match word.first() {
-        None => false,
-        Some(byte) => *byte != b'-',
-    }
-}
-
-fn ended(alloc: Global, ran: Ran) -> Answer
-    ensures { result ≡ ending ran }
-{
-    let status = if ran.finished {
-        Status::Finished
-    } else {
-        Status::Ended
+    let bytes = match script_bytes(alloc, script) {
+        Ok(bytes) => bytes,
+        Err(answer) => return answer,
     };
-    Answer {
-        status,
-        output: ran.output,
-        note: Bytes::new(alloc),
+    match replies_of(alloc, asked, events) {
+        Ok(replies) => of_run(alloc, bytes.as_slice(), &replies, settings, draws),
+        Err(answer) => answer,
     }
 }
 
-/// What the tree of a script of so many bytes comes to.
-fn answer_on(alloc: Global, size: usize, script: &Script) -> Answer
-    ensures { IsAnswerOn size script.now result }
+/// What a command comes to.
+fn of_command<S: Source, W: Draws>(
+    alloc: Global,
+    command: Command,
+    script: &mut S,
+    events: &mut S,
+    draws: &mut W,
+) -> Answer
+    requires { IsWithin command }
+    ensures script_count { S.faults script.old ≤ S.faults script.new }
+    ensures events_count { S.faults events.old ≤ S.faults events.new }
+    ensures answer { IsCommandAnswer W.words command
+        (record { before = S.faults script.old; now = S.faults script.new; left = S.left script.old; rest = S.left script.new })
+        (record { before = S.faults events.old; now = S.faults events.new; left = S.left events.old; rest = S.left events.new }) result }
 {
-    if size > MOST_BYTES {
-        return without_output(alloc, Status::NotBuilt);
-    }
-    match run_small(alloc, script) {
-        Ok(ran) => ended(alloc, ran),
-        Err(Stop::NotBuilt) => without_output(alloc, Status::NotBuilt),
-        Err(Stop::Memory) => without_output(alloc, Status::Memory),
-    }
-}
-
-/// What bytes that are no script come to.
-fn refused(alloc: Global, bytes: &[u8], stop: ScriptStop) -> Answer
-    requires { IsRead bytes.now (Err stop) }
-    ensures { IsAnswerOf bytes.now result }
-{
-    match stop {
-        ScriptStop::TooLarge => without_output(alloc, Status::TooLarge),
-        ScriptStop::Memory => without_output(alloc, Status::Memory),
-        _ => match fault_note(alloc, stop) {
-            Ok(note) => Answer {
-                status: Status::Syntax,
-                output: Bytes::new(alloc),
-                note,
-            },
-            Err(_) => without_output(alloc, Status::Memory),
-        },
+    match command {
+        Command::Plain(asked, settings) => {
+            of_plain(alloc, asked, &settings, script, events, draws)
+        }
+        Command::Run(_) => nothing(alloc, Status::NotBuilt),
+        Command::Play(_) => nothing(alloc, Status::NotBuilt),
+        Command::Show => nothing(alloc, Status::NotBuilt),
+        Command::Make(_) => nothing(alloc, Status::NotBuilt),
     }
 }
 
-/// What a script's bytes come to.
-fn answer_of(alloc: Global, bytes: &[u8]) -> Answer
-    ensures { IsAnswerOf bytes.now result }
+/// What words come to.
+fn of_words<S: Source, W: Draws>(
+    alloc: Global,
+    words: &[&str],
+    script: &mut S,
+    events: &mut S,
+    draws: &mut W,
+) -> Answer
+    ensures script_count { S.faults script.old ≤ S.faults script.new }
+    ensures events_count { S.faults events.old ≤ S.faults events.new }
+    ensures answer { IsAnswer W.words (map (λ w. w.now) words.now)
+        (record { before = S.faults script.old; now = S.faults script.new; left = S.left script.old; rest = S.left script.new })
+        (record { before = S.faults events.old; now = S.faults events.new; left = S.left events.old; rest = S.left events.new }) result }
 {
-    match read_script(alloc, bytes) {
-        Ok(found) => answer_on(alloc, bytes.len(), found.script()),
-        Err(stop) => refused(alloc, bytes, stop),
-    }
-}
-
-/// What the source comes to.
-fn due<S: Source>(alloc: Global, script: &mut S) -> Answer
-    ensures count { S.faults script.old ≤ S.faults script.new }
-    ensures due { IsDue (S.faults script.old) (S.faults script.new) (S.left script.old) (S.left script.new) result }
-{
-    match read_all(alloc, script, LIMIT) {
-        Ok(bytes) => answer_of(alloc, bytes.as_slice()),
-        Err(ReadStop::Fault) => without_output(alloc, Status::ReadFault),
-        Err(ReadStop::TooLarge) => without_output(alloc, Status::TooLarge),
-        Err(ReadStop::Memory) => without_output(alloc, Status::Memory),
-    }
-}
-
-/// The note of an answer.
-fn note(answer: &Answer) -> &[u8]
-    ensures { result.now ≡ note_of answer.now }
-{
-    match answer.status {
-        Status::Finished | Status::WriteFault => b"",
-        Status::Ended => b"refused NotWhole\n",
-        Status::Syntax => answer.note.as_slice(),
-        Status::ReadFault => b"read fault\n",
-        Status::Memory => b"no memory\n",
-        Status::TooLarge => b"script too large\n",
-        Status::NotBuilt => b"not built\n",
+    match read_words(alloc, words) {
+        Ok(command) => of_command(alloc, command, script, events, draws),
+        Err(WordStop::Usage) => nothing(alloc, Status::Usage),
+        Err(WordStop::Memory) => nothing(alloc, Status::Memory),
     }
 }
 
@@ -153,7 +98,7 @@ fn give<O: Sink>(answer: &Answer, out: &mut O, notes: &mut O) -> Status
     ensures notes_count { O.faults notes.old ≤ O.faults notes.new }
 {
     match write_all(out, answer.output.as_slice()) {
-        Ok(()) => match write_all(notes, note(answer)) {
+        Ok(()) => match write_all(notes, note_of(answer)) {
             Ok(()) => answer.status,
             Err(_) => Status::WriteFault,
         },
@@ -161,35 +106,40 @@ fn give<O: Sink>(answer: &Answer, out: &mut O, notes: &mut O) -> Status
     }
 }
 
-/// What a command comes to.
-fn carry_out<S: Source>(alloc: Global, words: &[&str], script: &mut S) -> Answer
-    ensures count { S.faults script.old ≤ S.faults script.new }
-    ensures answer { IsAnswer (map (λ w. w.now) words.now) (S.faults script.old) (S.faults script.new) (S.left script.old) (S.left script.new) result }
-{
-    if plain(words) {
-        due(alloc, script)
-    } else {
-        without_output(alloc, Status::NotBuilt)
-    }
-}
-
-/// Runs a command: the words after the program's name, the script, and where the output and the
-/// notes go. A status says how it ended.
-pub fn turkit<S: Source, O: Sink>(
+/// Runs a command: the words after the program's name, the script, the replies or the events, the disk of the journal, the board,
+/// the draws, and where the output and the notes go. The status says how it ended.
+///
+/// Usage comes exactly where the words are no command, and NotBuilt where they are another than `plain`; then no source is called.
+/// Of `plain` the script's bytes are read (ReadFault, TooLarge past 1,048,576 bytes), then the replies, where there is a word for
+/// them (ReadFault, TooLarge past 67,108,864 bytes, BadLine), and then the script runs over nothing that was kept: Syntax where it
+/// is none, Full where it makes more than 65,536 records, else Finished, Ended, Waiting or Spent as its run ends. The output is
+/// written once, where the run ended, and nothing otherwise; then the notes. WriteFault stands in the place of any other status:
+/// a front of the output was written, and then of the notes. Memory may come in the place of any, and says nothing. The disk and
+/// the board stay as they are.
+pub fn turkit<S: Source, D: Disk, B: Board, W: Draws, O: Sink>(
     alloc: Global,
     words: &[&str],
     script: &mut S,
+    events: &mut S,
+    disk: &mut D,
+    board: &mut B,
+    draws: &mut W,
     out: &mut O,
     notes: &mut O,
 ) -> Status
-    ensures answer { (a : Answer) × IsAnswer (map (λ w. w.now) words.now) (S.faults script.old) (S.faults script.new) (S.left script.old) (S.left script.new) a
+    ensures answer { (a : Answer) × IsAnswer W.words (map (λ w. w.now) words.now)
+        (record { before = S.faults script.old; now = S.faults script.new; left = S.left script.old; rest = S.left script.new })
+        (record { before = S.faults events.old; now = S.faults events.new; left = S.left events.old; rest = S.left events.new }) a
         × IsGiven a
         (record { before = O.faults out.old; now = O.faults out.new; old = O.written out.old; new = O.written out.new })
         (record { before = O.faults notes.old; now = O.faults notes.new; old = O.written notes.old; new = O.written notes.new }) result }
     ensures script_count { S.faults script.old ≤ S.faults script.new }
+    ensures events_count { S.faults events.old ≤ S.faults events.new }
     ensures out_count { O.faults out.old ≤ O.faults out.new }
     ensures notes_count { O.faults notes.old ≤ O.faults notes.new }
+    ensures disk { disk.new ≡ disk.old }
+    ensures board { board.new ≡ board.old }
 {
-    let answer = carry_out(alloc, words, script);
+    let answer = of_words(alloc, words, script, events, draws);
     give(&answer, out, notes)
 }

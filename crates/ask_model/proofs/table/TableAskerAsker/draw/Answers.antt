@@ -5,7 +5,7 @@ use Rattle.turk_base.specs.Whole.{IsWhole}
 use Rattle.ask_model.specs.declared.AskStop.{AskStop}
 use Rattle.ask_model.specs.Asker.{entry, stop_of, Adds}
 use Rattle.ask_model.specs.Table.{table}
-use Rattle.ask_model.proofs.Tables.{sound_by, adds_by, no_board_by, value_in, drew_added, drew_small, drew_keeps, drew_is, least_draw, refused_is}
+use Rattle.ask_model.proofs.Tables.{sound_by, adds_by, no_board_by, refusal_by, value_in, drew_added, drew_small, drew_keeps, drew_is, least_draw, refused_is}
 use Rattle.ask_model.proofs.table.TableAskerAsker.draw.Goals as goal
 
 pub returns-clause-drawn : goal.returns-clause-drawn
@@ -62,3 +62,13 @@ returns-clause-keeps g c =
     let r : Result ℤ AskStop = c.add_draw-result.result in
     let drew = c.add_draw-result.ensures in
     drew_keeps g.W.Draws.rest c.len.result s.made.items new path bound s.draws _ r refl drew
+
+pub returns-clause-refusal : goal.returns-clause-refusal
+returns-clause-refusal g c =
+    let s = c.args.self.now in
+    let path = c.args.path.now in
+    let bound = c.args.bound in
+    let new = c.add_draw-result.new.made.items in
+    let r : Result ℤ AskStop = c.add_draw-result.result in
+    let drew = c.add_draw-result.ensures in
+    refusal_by c.len.result (entry path (Draw bound (value_in r))) s.made.items new r (drew_added g.W.Draws.rest c.len.result s.made.items new path bound _ _ r drew)

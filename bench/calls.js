@@ -1,0 +1,5 @@
+// Recursive calls: 1,028,457 of them.
+function fib(n) {
+  return n < 2 ? n : fib(n - 1) + fib(n - 2);
+}
+print(fib(28));

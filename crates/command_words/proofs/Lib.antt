@@ -1,0 +1,4 @@
+pub mod OptionLemmas
+pub mod FuelLemmas
+pub mod NumberLemmas
+pub mod WordLemmas

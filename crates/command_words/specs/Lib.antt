@@ -1,0 +1,4 @@
+-- What the contracts of this crate cite.
+pub mod Numbers
+pub mod Options
+pub mod Words

@@ -1,0 +1,17 @@
+pub mod Answered
+pub mod Asked
+pub mod Bodied
+pub mod Branched
+pub mod Bridge
+pub mod Calls
+pub mod Closing
+pub mod Counted
+pub mod Ending
+pub mod Fitted
+pub mod Fresh
+pub mod Halting
+pub mod Indexes
+pub mod Opening
+pub mod Leaving
+pub mod Scoped
+pub mod Turns

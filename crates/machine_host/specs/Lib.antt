@@ -1,0 +1,10 @@
+pub mod Asking
+pub mod Bodies
+pub mod Exits
+pub mod Guards
+pub mod Leaving
+pub mod Moments
+pub mod Onces
+pub mod Runs
+pub mod Sound
+pub mod Starts

@@ -1,0 +1,4 @@
+-- What the contracts of this crate cite.
+pub mod Laws
+pub mod Plain
+pub mod Told

@@ -1,0 +1,3 @@
+mod Finishing
+mod Telling
+mod Whole
