@@ -189,6 +189,16 @@ pub record Leaves {S : Type 0} (moment : S → ℕ) (left_since : S → ℕ → 
 abbrev pub WithOrWithout : Seen → Entry → List Entry → Type 0
 WithOrWithout s e t = (t ≡ known_to s) ⊎ (t ≡ known_to s ++ e ∷ [])
 
+-- what was known; and with the new record too where it was added, or where a fault of the disk leaves that open
+abbrev pub Perhaps : Option AskStop → Seen → Entry → List Entry → Type 0
+Perhaps None s e t = WithOrWithout s e t
+Perhaps (Some (Fault Disk)) s e t = WithOrWithout s e t
+Perhaps (Some (Fault Board)) s e t = t ≡ known_to s
+Perhaps (Some (Diverged d)) s e t = t ≡ known_to s
+Perhaps (Some TraceFull) s e t = t ≡ known_to s
+Perhaps (Some LogFull) s e t = t ≡ known_to s
+Perhaps (Some Memory) s e t = t ≡ known_to s
+
 -- ---- a post
 
 -- That the board holds another text for the token is told with both texts.
@@ -231,10 +241,10 @@ abbrev pub Replies : (fits later : Entry → Bool) → List ℕ → List ℕ →
 Replies fits later path token old new result None = (result ≡ Ok None) × Stays old new None × (new.made ≡ old.made)
 Replies fits later path token old new result (Some text) = IfOk result (λ r. r ≡ Some text) × Adds fits later (entry path (Reply token text)) old new (stop_of result)
 
--- what was known, with the record of the reply that the snapshot has or without it
-abbrev pub WithReply : Seen → List ℕ → List ℕ → Option (List ℕ) → List Entry → Type 0
-WithReply s path token None t = t ≡ known_to s
-WithReply s path token (Some text) t = WithOrWithout s (entry path (Reply token text)) t
+-- what was known, or with the record of the reply that the snapshot has
+abbrev pub WithReply : Option AskStop → Seen → List ℕ → List ℕ → Option (List ℕ) → List Entry → Type 0
+WithReply stop s path token None t = t ≡ known_to s
+WithReply stop s path token (Some text) t = Perhaps stop s (entry path (Reply token text)) t
 
 -- ---- a draw
 
@@ -244,4 +254,4 @@ pub record Drawn {S : Type 0} (seen : S → Seen) (fits : S → Entry → Bool) 
   pub small : IsDraw bound value
   pub is : IfOk result (λ r. r ≡ value)
   pub adds : Adds (fits old) (fits new) (entry path (Draw bound value)) (seen old) (seen new) (stop_of result)
-  pub traces : tells → Leaves moment left_since old new (WithOrWithout (seen old) (entry path (Draw bound value)))
+  pub traces : tells → Leaves moment left_since old new (Perhaps (stop_of result) (seen old) (entry path (Draw bound value)))

@@ -6,7 +6,7 @@ ghost use Rattle.turk_base.specs.declared.Record.TheVariants.{Post, Once};
 ghost use Rattle.turk_base.specs.Trace.{at, below, answer};
 ghost use Rattle.record_bytes.specs.Limits.{IsTextWithin, IsWithin};
 ghost use Rattle.ask_model.specs.declared.AskStop.{AskStop};
-ghost use Rattle.ask_model.specs.Asker.{Seen, known_to, entry, IsCallPath, KnowsWithin, known_at, asked_at, record_in, stop_of, Adds, NoBoard, Leaves, WithOrWithout, IsHeld, Posts, Replies, WithReply, Drawn};
+ghost use Rattle.ask_model.specs.Asker.{Seen, known_to, entry, IsCallPath, KnowsWithin, known_at, asked_at, record_in, stop_of, Adds, NoBoard, Leaves, Perhaps, IsHeld, Posts, Replies, WithReply, Drawn};
 
 use crate::{AskStop, Known};
 use turk_base::{Data, Path, Record, Units, Whole};
@@ -80,7 +80,7 @@ pub trait Asker {
         ensures held { IsHeld path.now text.now (stop_of result) }
         ensures words { (k : ℕ) → words self.new k ≡ words self.old k }
         ensures tasks { tells_tasks → Posts token.now text.now (seen self.old).tasks (seen self.new).tasks (stop_of result) }
-        ensures traces { tells_traces → Leaves moment left_since self.old self.new (WithOrWithout (seen self.old) (entry path.now (Post text.now))) }
+        ensures traces { tells_traces → Leaves moment left_since self.old self.new (Perhaps (stop_of result) (seen self.old) (entry path.now (Post text.now))) }
         ensures refusal { IfErr result (λ why. refuses why) }
         ensures sound { is_sound self.new }
         ensures keeps { keeps self.old self.new };
@@ -98,7 +98,7 @@ pub trait Asker {
         ensures no_board { NoBoard (stop_of result) }
         ensures words { (k : ℕ) → words self.new k ≡ words self.old k }
         ensures tasks { tells_tasks → (seen self.new).tasks ≡ (seen self.old).tasks }
-        ensures traces { tells_traces → Leaves moment left_since self.old self.new (WithReply (seen self.old) path.now token.now (answer (seen self.old).replies token.now)) }
+        ensures traces { tells_traces → Leaves moment left_since self.old self.new (WithReply (stop_of result) (seen self.old) path.now token.now (answer (seen self.old).replies token.now)) }
         ensures refusal { IfErr result (λ why. refuses why) }
         ensures sound { is_sound self.new }
         ensures keeps { keeps self.old self.new };
@@ -130,7 +130,7 @@ pub trait Asker {
         ensures no_board { NoBoard (stop_of result) }
         ensures words { (k : ℕ) → words self.new k ≡ words self.old k }
         ensures tasks { tells_tasks → (seen self.new).tasks ≡ (seen self.old).tasks }
-        ensures traces { tells_traces → Leaves moment left_since self.old self.new (WithOrWithout (seen self.old) (entry path.now (Once value.now))) }
+        ensures traces { tells_traces → Leaves moment left_since self.old self.new (Perhaps (stop_of result) (seen self.old) (entry path.now (Once value.now))) }
         ensures refusal { IfErr result (λ why. refuses why) }
         ensures sound { is_sound self.new }
         ensures keeps { keeps self.old self.new };

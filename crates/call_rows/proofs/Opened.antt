@@ -5,7 +5,7 @@ use Rattle.std.proofs.lemmas.Option.{slice_get_within}
 use Rattle.turk_base.specs.Names.{Name}
 use Rattle.turk_base.specs.Prog.{Prog}
 use Rattle.value_cells.specs.Seen.{Naming, Grows}
-use Rattle.run_host.specs.Moment.{Moment, cells}
+use Rattle.run_host.specs.Moment.{Chain, Moment, cells}
 use Rattle.run_host.specs.Told.{Told}
 use Rattle.run_host.specs.Did.{Runs}
 use Rattle.run_host.specs.Scopes.{Local}
@@ -19,7 +19,7 @@ grows_length a b g (suc n) e =
     let h = slice_get_within b n f.0 (g n f.0 f.1) in
     omega (arith, h)
 
-pub more_cells : {f : Naming → Prog} {t : Naming → Told} {old new : Moment} → Runs f t old new → cells old ≤ cells new
+pub more_cells : {κ : Chain} {f : Naming → Prog} {t : Naming → Told} {old new : Moment κ} → Runs f t old new → cells old ≤ cells new
 more_cells {old = old} {new = new} r = grows_length old.heap.names new.heap.names r.same.grows (length old.heap.names) refl
 
 -- a program of one cell knows no others

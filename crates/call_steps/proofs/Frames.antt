@@ -16,7 +16,7 @@ use Rattle.js_tree.specs.Pieces.{make_function}
 use Rattle.value_cells.specs.declared.Value.{Value}
 use Rattle.value_cells.specs.Needs.{needs, all_needs}
 use Rattle.value_cells.specs.Seen.{Naming, val_in}
-use Rattle.run_host.specs.Moment.{Moment}
+use Rattle.run_host.specs.Moment.{Chain, Moment}
 use Rattle.run_host.specs.Steps.{Step, Leads, Leaves, Gives}
 use Rattle.run_host.proofs.Sequence.{leads_then, leads_out, gives_on, leaves_on}
 use Rattle.run_host.proofs.Fits.{leads_eq}
@@ -93,15 +93,15 @@ module _ (at : Naming → Name) (all : List Units) (vs : List Value) (i : ℕ) w
       ∙ (λ j. add_parameters (at nu) (sym q j ∷ drop (sym (add-one i) j) all) (map (val_in nu) (drop i vs)) go)
       ∙ ap (λ ws. parameter_step x nu (λ _. add_parameters (at nu) (drop (i + 1) all) ws go)) (tail_from (val_in nu) vs i ∙ ap (λ k. map (val_in nu) (drop k vs)) (sym (add-one i)))
 
-  pub parameters_goes : (x : Units) (later : List Units) {a b c : Moment} {whole : Naming → Step (Unit {0})} → i < length all → x ≡ get_or all i x → later ≡ drop (i + 1) all → Leads whole parameters_from a b →
+  pub parameters_goes : {κ : Chain} → (x : Units) (later : List Units) {a b c : Moment κ} {whole : Naming → Step (Unit {0})} → i < length all → x ≡ get_or all i x → later ≡ drop (i + 1) all → Leads whole parameters_from a b →
       Gives (step_before later x) (λ nu. tt) b c → Leads whole parameters_next a c
   parameters_goes x later {b = b} {c = c} h q e rest ran = leads_then rest (leads_then (leads_eq (parameter_at x h q)) (gives_on (subst (λ l. Gives (step_before l x) (λ nu. tt) b c) e ran) (λ nu _. parameters_next nu)))
 
-  pub parameters_out : (x : Units) (later : List Units) (y : Exit) {a b c : Moment} {whole : Naming → Step (Unit {0})} → i < length all → x ≡ get_or all i x → later ≡ drop (i + 1) all → Leads whole parameters_from a b →
+  pub parameters_out : {κ : Chain} → (x : Units) (later : List Units) (y : Exit) {a b c : Moment κ} {whole : Naming → Step (Unit {0})} → i < length all → x ≡ get_or all i x → later ≡ drop (i + 1) all → Leads whole parameters_from a b →
       Leaves (step_before later x) y b c → Leaves whole y a c
   parameters_out x later y {b = b} {c = c} h q e rest ran = leads_out rest (leads_out (leads_eq (parameter_at x h q)) (leaves_on (subst (λ l. Leaves (step_before l x) y b c) e ran) (λ nu _. parameters_next nu)))
 
-  pub parameters_over : {a b : Moment} {whole : Naming → Step (Unit {0})} → length all ≤ i → Leads whole parameters_from a b → Gives whole (λ nu. tt) a b
+  pub parameters_over : {κ : Chain} {a b : Moment κ} {whole : Naming → Step (Unit {0})} → length all ≤ i → Leads whole parameters_from a b → Gives whole (λ nu. tt) a b
   parameters_over h rest = leads_then rest (leads_eq (λ nu go. ap (λ xs. add_parameters (at nu) xs (map (val_in nu) (drop i vs)) go) (drop_of_length-le all h)))
 
 -- ---- functions, the first i of them declared
@@ -132,18 +132,18 @@ module _ (at : Naming → Name) (ps : List Units) (all : List Declaration) (i : 
       ∙ (λ j. function_step (sym q j) (has so_far (declared_name (sym q j))) nu (λ _. add_functions (at nu) (declared_name (sym q j) ∷ so_far) (drop (sym (add-one i) j) all) go))
       ∙ ap (λ b. function_step d b nu (λ _. functions_next d nu go)) k
 
-  pub functions_goes : (d : Declaration) (known : Bool) {a b c : Moment} {whole : Naming → Step (List Units)} → i < length all → d ≡ get_or all i d → has so_far (declared_name d) ≡ known →
+  pub functions_goes : {κ : Chain} → (d : Declaration) (known : Bool) {a b c : Moment κ} {whole : Naming → Step (List Units)} → i < length all → d ≡ get_or all i d → has so_far (declared_name d) ≡ known →
       Leads whole functions_from a b → Gives (function_step d known) (λ nu. tt) b c → Leads whole (functions_next d) a c
   functions_goes d known h q k rest ran = leads_then rest (leads_then (leads_eq (function_at d known h q k)) (gives_on ran (λ nu _. functions_next d nu)))
 
-  pub functions_out : (d : Declaration) (known : Bool) (x : Exit) {a b c : Moment} {whole : Naming → Step (List Units)} → i < length all → d ≡ get_or all i d → has so_far (declared_name d) ≡ known →
+  pub functions_out : {κ : Chain} → (d : Declaration) (known : Bool) (x : Exit) {a b c : Moment κ} {whole : Naming → Step (List Units)} → i < length all → d ≡ get_or all i d → has so_far (declared_name d) ≡ known →
       Leads whole functions_from a b → Leaves (function_step d known) x b c → Leaves whole x a c
   functions_out d known x h q k rest ran = leads_out rest (leads_out (leads_eq (function_at d known h q k)) (leaves_on ran (λ nu _. functions_next d nu)))
 
-  pub functions_over : {a b : Moment} {whole : Naming → Step (List Units)} → length all ≤ i → Leads whole functions_from a b → Gives whole (λ nu. after ps all) a b
+  pub functions_over : {κ : Chain} {a b : Moment κ} {whole : Naming → Step (List Units)} → length all ≤ i → Leads whole functions_from a b → Gives whole (λ nu. after ps all) a b
   functions_over h rest = leads_then rest (leads_eq (λ nu go. ap (λ ds. add_functions (at nu) so_far ds go) (drop_of_length-le all h) ∙ ap (λ ds. go (after ps ds)) (take_over all i h)))
 
-pub functions_more : (at : Naming → Name) (ps : List Units) (all : List Declaration) (i : ℕ) (d : Declaration) {a b : Moment} {whole : Naming → Step (List Units)} → i < length all → d ≡ get_or all i d →
+pub functions_more : {κ : Chain} → (at : Naming → Name) (ps : List Units) (all : List Declaration) (i : ℕ) (d : Declaration) {a b : Moment κ} {whole : Naming → Step (List Units)} → i < length all → d ≡ get_or all i d →
     Leads whole (functions_next at ps all i d) a b → Leads whole (functions_from at ps all (i + 1)) a b
 functions_more at ps all i d h q rest = leads_then rest (leads_eq (λ nu go. ap (λ ns. add_functions (at nu) ns (drop (i + 1) all) go)
     (sym (ap (after ps) (take_more all i d h) ∙ after_last ps (take i all) (get_or all i d) ∙ ap (λ e. declared_name e ∷ after ps (take i all)) (sym q)))))
@@ -175,15 +175,15 @@ module _ (at : Naming → Name) (all : List Units) (i : ℕ) where
       by true = refl
       by false = refl
 
-  pub variables_goes : (names : List Units) (x : Units) (known : Bool) {a b c : Moment} {whole : Naming → Step (Unit {0})} → i < length all → x ≡ get_or all i x → has names x ≡ known →
+  pub variables_goes : {κ : Chain} → (names : List Units) (x : Units) (known : Bool) {a b c : Moment κ} {whole : Naming → Step (Unit {0})} → i < length all → x ≡ get_or all i x → has names x ≡ known →
       Leads whole (variables_from names) a b → Gives (variable_step x known) (λ nu. tt) b c → Leads whole (variables_next (with_name names x known)) a c
   variables_goes names x known h q k rest ran = leads_then rest (leads_then (leads_eq (variable_at names x known h q k)) (gives_on ran (λ nu _. variables_next (with_name names x known) nu)))
 
-  pub variables_out : (names : List Units) (x : Units) (known : Bool) (e : Exit) {a b c : Moment} {whole : Naming → Step (Unit {0})} → i < length all → x ≡ get_or all i x → has names x ≡ known →
+  pub variables_out : {κ : Chain} → (names : List Units) (x : Units) (known : Bool) (e : Exit) {a b c : Moment κ} {whole : Naming → Step (Unit {0})} → i < length all → x ≡ get_or all i x → has names x ≡ known →
       Leads whole (variables_from names) a b → Leaves (variable_step x known) e b c → Leaves whole e a c
   variables_out names x known e h q k rest ran = leads_out rest (leads_out (leads_eq (variable_at names x known h q k)) (leaves_on ran (λ nu _. variables_next (with_name names x known) nu)))
 
-  pub variables_over : (names : List Units) {a b : Moment} {whole : Naming → Step (Unit {0})} → length all ≤ i → Leads whole (variables_from names) a b → Gives whole (λ nu. tt) a b
+  pub variables_over : {κ : Chain} → (names : List Units) {a b : Moment κ} {whole : Naming → Step (Unit {0})} → length all ≤ i → Leads whole (variables_from names) a b → Gives whole (λ nu. tt) a b
   variables_over names h rest = leads_then rest (leads_eq (λ nu go. ap (λ xs. add_variables (at nu) names xs go) (drop_of_length-le all h)))
 
 -- ---- what is tested is what the frame has

@@ -10,7 +10,7 @@ use Rattle.js_tree.specs.ScriptCalls.{line_of}
 use Rattle.value_cells.specs.declared.Value.{Value}
 use Rattle.value_cells.specs.Seen.{Naming, val_in}
 use Rattle.run_host.specs.declared.Exit.{Exit}
-use Rattle.run_host.specs.Moment.{Moment}
+use Rattle.run_host.specs.Moment.{Chain, Moment}
 use Rattle.run_host.specs.Steps.{Step, Leads, Leaves, Gives}
 use Rattle.run_host.proofs.Sequence.{leads_then, leads_out, gives_on, leaves_on}
 use Rattle.run_host.proofs.Fits.{leads_eq}
@@ -49,13 +49,13 @@ module _ (all : List Value) (i : ℕ) (line : Units) where
   line_step v h q nu go = ap (λ vs. line_from line (map (val_in nu) vs) go) (drop-cons all i v h)
       ∙ (λ j. text_from (val_in nu (sym q j)) (λ t. line_from (line ++ 32 ∷ t) (map (val_in nu) (drop (sym (add-one i) j) all)) go))
 
-  pub line_goes : (v : Value) (t : Units) {a b c : Moment} {whole : Naming → Step Units} → i < length all → v ≡ get_or all i v → Leads whole line_at a b →
+  pub line_goes : {κ : Chain} → (v : Value) (t : Units) {a b c : Moment κ} {whole : Naming → Step Units} → i < length all → v ≡ get_or all i v → Leads whole line_at a b →
       Gives (λ nu. text_from (val_in nu v)) (λ nu. t) b c → Leads whole (line_next t) a c
   line_goes v t h q rest ran = leads_then rest (leads_then (leads_eq (line_step v h q)) (gives_on ran (λ nu t go. line_next t nu go)))
 
-  pub line_out : (v : Value) (x : Exit) {a b c : Moment} {whole : Naming → Step Units} → i < length all → v ≡ get_or all i v → Leads whole line_at a b →
+  pub line_out : {κ : Chain} → (v : Value) (x : Exit) {a b c : Moment κ} {whole : Naming → Step Units} → i < length all → v ≡ get_or all i v → Leads whole line_at a b →
       Leaves (λ nu. text_from (val_in nu v)) x b c → Leaves whole x a c
   line_out v x h q rest ran = leads_out rest (leads_out (leads_eq (line_step v h q)) (leaves_on ran (λ nu t go. line_next t nu go)))
 
-  pub line_over : {a b : Moment} {whole : Naming → Step Units} → length all ≤ i → Leads whole line_at a b → Gives whole (λ nu. line) a b
+  pub line_over : {κ : Chain} {a b : Moment κ} {whole : Naming → Step Units} → length all ≤ i → Leads whole line_at a b → Gives whole (λ nu. line) a b
   line_over h rest = leads_then rest (leads_eq (λ nu go. ap (λ vs. line_from line (map (val_in nu) vs) go) (drop_of_length-le all h)))

@@ -8,7 +8,7 @@ ghost use Rattle.js_tree.specs.Expressions.{this_row, name_row, literal_row, fun
 ghost use Rattle.js_tree.specs.Pieces as pieces;
 ghost use Rattle.value_cells.specs.Needs.{needs};
 ghost use Rattle.value_cells.specs.Seen.{val_in};
-ghost use Rattle.run_host.specs.Moment.{Moment, cells};
+ghost use Rattle.run_host.specs.Moment.{Moment, alone, cells};
 ghost use Rattle.run_host.specs.Told.{told_value, here_in, here_needs, exit_needs};
 ghost use Rattle.run_host.specs.Did.{Runs};
 ghost use Rattle.run_host.specs.Steps.{Takes};
@@ -22,8 +22,9 @@ use value_cells::{CellKind, Value};
 
 /// `this` (11.1.1).
 pub fn this(here: Here) -> Result<Value, Exit>
-    ensures ran { (m : Moment) → Runs (λ nu. this_row (here_in nu here)) (λ nu. told_value nu result) m m }
+    ensures ran { (m : Moment alone) → Runs (λ nu. this_row (here_in nu here)) (λ nu. told_value nu result) m m }
     ensures exists { IfOk result (λ v. needs v ≤ here_needs here) }
+    ensures thrown { IfErr result (λ x. exit_needs x ≡ 0) }
 {
     match here.this {
         Some(cell) => Ok(Value::Object(cell)),
@@ -46,7 +47,7 @@ pub fn name<H: Host>(alloc: Global, host: &mut H, here: Here, x: &Named) -> Resu
 
 /// A literal (11.1.3).
 pub fn literal(alloc: Global, literal: &Literal) -> Result<Value, Exit>
-    ensures ran { (m : Moment) → Runs (λ nu. literal_row literal.now) (λ nu. told_value nu result) m m }
+    ensures ran { (m : Moment alone) → Runs (λ nu. literal_row literal.now) (λ nu. told_value nu result) m m }
     ensures exists { IfOk result (λ v. needs v ≡ 0) }
     ensures thrown { IfErr result (λ x. exit_needs x ≡ 0) }
 {

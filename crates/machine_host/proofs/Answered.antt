@@ -1,12 +1,12 @@
 -- The requests that a machine answers alone.
 use Rattle.std.specs.Prelude.{◌-◌, ◌+◌, nat_lt, Bool, true, false, map, reverse, Result, Ok, Err, OnOk}
-use Rattle.std.proofs.Common.{◌≡◌, ◌≤◌, ◌<◌, ℕ, refl, sym, ap, subst, ◌∙◌, arith, ◌∷◌, List, [], IsErrAnd}
+use Rattle.std.proofs.Common.{◌≡◌, ◌≤◌, ℕ, refl, sym, ap, subst, arith, ◌∷◌, List, []}
 use Rattle.std.proofs.lemmas.Bool.Decides.{nat_tests}
 use Rattle.turk_base.specs.Names.{Units, Path, Name, path_in}
 use Rattle.turk_base.specs.Values.{Val}
 use Rattle.turk_base.specs.Prog.{Prim, AnswerOf, Pay, WriteName, Declare, ask}
-use Rattle.turk_base.specs.State.{St, charge, act, op_cost}
-use Rattle.turk_base.specs.Steps.{Small, give, step, steps_of}
+use Rattle.turk_base.specs.State.{act}
+use Rattle.turk_base.specs.Steps.{Small, steps_of}
 use Rattle.js_tree.specs.Run.{run}
 use Rattle.ask_model.specs.Asker.{Seen as Asked}
 use Rattle.value_cells.specs.declared.OpStop.{OpStop}
@@ -16,7 +16,7 @@ use Rattle.value_cells.specs.Does.{Told, Says, Stays, Does, told}
 use Rattle.run_heap.specs.Works.{Performs}
 use Rattle.eval_ops.specs.Run.{Run, seen_of}
 use Rattle.value_cells.specs.declared.Value.{Value}
-use Rattle.run_host.specs.Moment.{Moment}
+use Rattle.run_host.specs.Moment.{alone, Moment}
 use Rattle.run_host.specs.declared.Exit.{Exit}
 use Rattle.run_host.specs.Steps.{Step, Gives, Takes}
 use Rattle.machine_host.specs.declared.AskedRun.{AskedRun}
@@ -91,5 +91,5 @@ unfolding steps_of
 declared_set c name v r s t d = record { stays = d.stays; did = d.did }
 
 -- what is looked at changes nothing
-pub looked : {A : Type 0} (f : Naming → Step A) (g : Naming → Small A) (asks : (nu : Naming) → Asks (f nu) (g nu)) (a : Naming → A) (m : Moment) → Performs g (λ nu. Says (a nu)) m.heap m.heap → Gives f a m m
+pub looked : {A : Type 0} (f : Naming → Step A) (g : Naming → Small A) (asks : (nu : Naming) → Asks (f nu) (g nu)) (a : Naming → A) (m : Moment alone) → Performs g (λ nu. Says (a nu)) m.heap m.heap → Gives f a m m
 looked f g asks a m p = record { goes = λ go. record { goes = λ said last r. answered_run (steps_came f g asks m go) m.heap p.stays a p.did (λ nu c k. refl) r } }

@@ -1,5 +1,5 @@
 -- An ask as a whole: its index, what is known at its path, and what came of it.
-use Rattle.std.specs.Prelude.{ℤ, List, Option, Some, None, Result, Ok, Err}
+use Rattle.std.specs.Prelude.{ℤ, List, Some, Result}
 use Rattle.std.proofs.Common.{◌≡◌, ℕ, refl, sym, ap, subst, ◌∙◌, ◌⊎◌}
 use Rattle.turk_base.specs.Names.{Units, path_in}
 use Rattle.turk_base.specs.declared.Record.{Record}
@@ -7,7 +7,6 @@ use Rattle.turk_base.specs.Asks.{Question, posts, replies, draws, AnsOf}
 use Rattle.turk_base.specs.Prog.{Post, Reply, Draw, ask}
 use Rattle.turk_base.specs.Steps.{give, steps_of}
 use Rattle.turk_base.specs.Steps as steps
-use Rattle.turk_base.specs.Trace.{at}
 use Rattle.turk_base.specs.Told.{records_of}
 use Rattle.js_tree.specs.Run.{run}
 use Rattle.js_tree.specs.World.{diverges, found_below, called_by}
@@ -18,7 +17,7 @@ use Rattle.ask_model.proofs.Finds.{below_is, nothing_is}
 use Rattle.value_cells.specs.Seen.{Naming}
 use Rattle.run_host.specs.declared.Exit.{Exit}
 use Rattle.run_host.specs.declared.Exit.TheVariants.{Stopped}
-use Rattle.run_host.specs.Moment.{Moment}
+use Rattle.run_host.specs.Moment.{alone, Moment}
 use Rattle.run_host.specs.Steps.{Step, Leaves, Takes}
 use Rattle.machine_host.specs.declared.AskedRun.{AskedRun}
 use Rattle.machine_host.specs.Moments.{moment_at}
@@ -41,12 +40,12 @@ pub asks_draw : (bound : ℤ) → Asks (ask (Draw bound)) (steps.ask (draws boun
 unfolding run steps_of
 asks_draw bound = record { runs = λ c go k σ w. refl }
 
-pub loses_leaves : {A : Type 0} {f : Naming → Step A} {m n : Moment} (e : Exit) → Loses e m n → Leaves f e m n
-loses_leaves {A} {f} {m} {n} e l = subst (λ e. Leaves f e m n) (sym l.is) (lost_leaves m n l.same l.made)
+pub loses_leaves : {A : Type 0} {f : Naming → Step A} {m n : Moment alone} (e : Exit) → Loses e m n → Leaves f e m n
+loses_leaves {A} {f} {m} {n} e l = subst (λ e. Leaves f e m n) (sym l.is) (lost_leaves m n l.same l.made l.stopped)
 
 module _ {X : Type 0} (seen : X → Asked_of) (words : X → ℕ → ℕ) (old mid : AskedRun X) (known : X) (q : Question) (f : Step (AnsOf q)) (is : Asks f (steps.ask q give)) (p : List ℕ) (x : Indexed p (moment_of seen words old) (moment_of seen words mid))
     (asker : mid.asker ≡ old.asker) (notes : mid.notes ≡ old.notes) (asked : seen known ≡ asked_at (seen mid.asker) p) (drawn : (k : ℕ) → words known k ≡ words mid.asker k) where
-  abbrev now : Moment
+  abbrev now : Moment alone
   now = moment_at (heap_of mid) (seen known) (words known) (notes_of mid.notes)
 
   now_is : now ≡ record (moment_of seen words old) { heap = heap_of mid }
@@ -61,7 +60,7 @@ module _ {X : Type 0} (seen : X → Asked_of) (words : X → ℕ → ℕ) (old m
       let b = below_is (known_to (seen mid.asker)) p e in
       below_takes q f is (seen mid.asker) (moment_of seen words old) (moment_of seen words mid) (λ i. records_of (seen (sym asker i)).trace) (λ i. records_of (seen (sym asker i)).made) p x (λ nu (a : AnsOf q). a) now now_is b.0 b.1 y t
 
-  pub from_nothing : Nothing ≡ known_at (known_to (seen mid.asker)) p → (l : Moment) (y : Result (AnsOf q) Exit) → spec.Asks q (path_in p) now l y → Takes (λ nu. f) (λ nu a. a) y (moment_of seen words old) l
+  pub from_nothing : Nothing ≡ known_at (known_to (seen mid.asker)) p → (l : Moment alone) (y : Result (AnsOf q) Exit) → spec.Asks q (path_in p) now l y → Takes (λ nu. f) (λ nu a. a) y (moment_of seen words old) l
   from_nothing e l y a =
       let b = nothing_is (known_to (seen mid.asker)) p e in
       ask_takes q f is (seen mid.asker) (moment_of seen words old) (moment_of seen words mid) (λ i. records_of (seen (sym asker i)).trace) (λ i. records_of (seen (sym asker i)).made) p x l b.0 b.1 y (subst (λ m. spec.Asks q (path_in p) m l y) now_is a)

@@ -8,7 +8,7 @@ use Rattle.turk_base.specs.Prog.{Prog, Once}
 use Rattle.turk_base.specs.State.{St, once_call, next_call, enter, leave}
 use Rattle.turk_base.specs.Steps.{taking, put_data}
 use Rattle.turk_base.specs.Values.{Val, Data, Outcome, Normal, Throw}
-use Rattle.js_tree.specs.Run.{End, ret, thr, datum, Out, ended, halted, Res, res, add, run, run_steps, body_end, after_body, on_once, once_goes}
+use Rattle.js_tree.specs.Run.{End, ret, thr, datum, Out, ended, Res, res, add, run, run_steps, body_end, after_body, on_once, once_goes}
 use Rattle.js_tree.specs.World.{Rest}
 use Rattle.run_laws.proofs.Sequel.{Place, run_at, Ends, Stops}
 use Rattle.run_laws.proofs.Cuts.{Next, makes, unknown, Cuts, in_body, body_at, once_cut, once_unmade}

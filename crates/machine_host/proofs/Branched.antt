@@ -1,6 +1,6 @@
 -- What a call of fork comes to, by what its branch came to.
 use Rattle.std.specs.Prelude.{Bool, true, false, List, None}
-use Rattle.std.proofs.Common.{◌≡◌, ℕ, refl, sym, ap, subst, ◌∙◌, [], ◌++◌, append-nil}
+use Rattle.std.proofs.Common.{◌≡◌, refl, sym, ap, subst, ◌∙◌, [], ◌++◌, append-nil}
 use Rattle.turk_base.specs.Names.{Path, sub}
 use Rattle.turk_base.specs.Asks.{Rec, find}
 use Rattle.turk_base.specs.Prog.{Prog, Fork}
@@ -18,8 +18,8 @@ use Rattle.ask_model.specs.declared.AskStop.{AskStop}
 use Rattle.run_host.specs.declared.Halt.{Halt}
 use Rattle.run_host.specs.declared.Halt.TheVariants as halt
 use Rattle.run_host.specs.declared.Refusal.{Refusal}
-use Rattle.run_host.specs.Told.{Told, Says, Halts, Fails, GoesOn, IsOut, refusal_in}
-use Rattle.run_host.specs.Ends.{Like, Halted, Comes, says, halts, fails}
+use Rattle.run_host.specs.Told.{Told, Says, Halts, Fails, GoesOn, refusal_in}
+use Rattle.run_host.specs.Ends.{Like, Halted, Comes, halts, fails}
 use Rattle.run_host.proofs.Comes.{ends_of}
 
 -- how a branch ends whose call ended so

@@ -2,10 +2,10 @@
 use Rattle.std.specs.Prelude.{◌-◌, nat_lt, Bool, true, false, List, Option, Some, None}
 use Rattle.std.proofs.Common.{◌≡◌, ◌≤◌, ℕ, refl, ◌∙◌, arith}
 use Rattle.turk_base.specs.Names.{Path}
-use Rattle.turk_base.specs.Values.{Known, Kind, Frame, Plain, Array, Function, BuiltIn, Outcome}
+use Rattle.turk_base.specs.Values.{Known, Frame, Plain, Array, Function, BuiltIn, Outcome}
 use Rattle.turk_base.specs.Prog.{Prim, AnswerOf, Prog, Done, Ask, Then, Always, Once, Fork, Loop}
 use Rattle.turk_base.specs.Start.{start}
-use Rattle.turk_base.specs.State.{St, Op, charge, known_at, make, change, print, join, forks_here, crash, AnswerTo, Act, gives, refused, waiting, stuck, act, act_known, act_chained, act_change, act_join, act_forks, op_cost, any_gone, too_many}
+use Rattle.turk_base.specs.State.{St, Op, charge, known_at, make, change, print, join, forks_here, crash, Act, gives, refused, waiting, stuck, act, act_known, act_chained, act_change, act_join, act_forks, op_cost, any_gone, too_many}
 use Rattle.turk_base.specs.Steps.{Small, give, refuse, lost, step, steps_of}
 use Rattle.turk_base.specs.Steps as steps
 use Rattle.js_tree.specs.Run.{ended, halted, bar, spent, missing, Res, res, pay_if, on_act, run_steps, run}

@@ -1,13 +1,12 @@
 -- Asks of the outside.
-use Rattle.std.specs.Prelude.{ℤ, length, slice_get, Bool, true, false, List, map, Option, Some, None, Result, Ok, Err}
+use Rattle.std.specs.Prelude.{ℤ, length, slice_get, Bool, true, false, List, Option, Some, None, Result, Ok, Err}
 use Rattle.std.proofs.Common.{◌≡◌, ◌≤◌, ℕ, suc, refl, sym, ap, subst, ◌∙◌, arith, [], ◌∷◌, ◌++◌, append-nil, append_assoc, inl, inr, ◌⊎◌}
 use Rattle.std.proofs.lemmas.List.{map-append}
 use Rattle.std.proofs.lemmas.Option.{slice_get_within}
 use Rattle.turk_base.specs.Names.{Path, Name, home, sub, path_in, In, Under, self}
 use Rattle.turk_base.specs.declared.Record.{Record}
 use Rattle.turk_base.specs.declared.Record.TheVariants as kept
-use Rattle.turk_base.specs.declared.Entry.{Entry}
-use Rattle.turk_base.specs.Values.{Outcome, Wait}
+use Rattle.turk_base.specs.Values.{Outcome}
 use Rattle.turk_base.specs.Asks.{Question, posts, replies, draws, AnsOf, Rec, rec, path_of, find, below, answer}
 use Rattle.turk_base.specs.Prog.{Prog}
 use Rattle.turk_base.specs.State.{St, next_call}
@@ -15,11 +14,11 @@ use Rattle.turk_base.specs.Steps.{Small, give}
 use Rattle.turk_base.specs.Steps as steps
 use Rattle.turk_base.specs.Trace as told
 use Rattle.turk_base.specs.Told.{record_of, records_of}
-use Rattle.js_tree.specs.Run.{Out, ended, waits, halted, undrawn, diverged, Res, res, add, on_kept, on_ask, unanswered, run_steps}
+use Rattle.js_tree.specs.Run.{Out, waits, halted, undrawn, diverged, Res, res, add, on_kept, on_ask, unanswered, run_steps}
 use Rattle.js_tree.specs.World as meaning
 use Rattle.js_tree.specs.World.{World, Rest, Draws, Fresh, fresh, fresh_reply, fresh_draw, drew, noted, kept_answer, diverges, found_kept, found_below, called_by, draw_of}
 use Rattle.run_laws.proofs.Sequel.{Place, run_at}
-use Rattle.run_laws.proofs.Cuts.{Next, Follows, follows_add, lacks_draw, makes}
+use Rattle.run_laws.proofs.Cuts.{Next, Follows, follows_add}
 use Rattle.run_laws.proofs.Fronts.{front}
 use Rattle.run_laws.proofs.Within.{After}
 use Rattle.run_laws.proofs.Looks.{looks_found, looks_below}
@@ -35,20 +34,18 @@ use Rattle.run_host.specs.declared.Exit.{Exit}
 use Rattle.run_host.specs.declared.Exit.TheVariants as exit
 use Rattle.run_host.specs.declared.Halt.{Halt}
 use Rattle.run_host.specs.declared.Halt.TheVariants as halt
-use Rattle.run_host.specs.Moment.{Moment, cells, rest_of, draws_in, drawn_by, AllDealt, Deals, Moves, Suits, Clear, place, Same, Within}
+use Rattle.run_host.specs.Moment.{alone, Moment, cells, rest_of, draws_in, drawn_by, AllDealt, Deals, Moves, Suits, Clear, place, Same, Within}
 use Rattle.run_host.specs.Moment as moment
 use Rattle.run_host.specs.Told as shown
 use Rattle.run_host.specs.Told.{Told, next_of, IsShown, told_exit}
 use Rattle.run_host.specs.Ends.{Like, Comes, says, halts, fails}
-use Rattle.run_host.specs.Did.{Runs}
 use Rattle.run_host.specs.Steps.{Step, Leaves, Gives, Takes}
 use Rattle.run_host.proofs.Comes.{add_add, halted_then}
-use Rattle.run_host.proofs.Moments.{moves_twice, dealt_twice, fits_before, same_trans, within_refl, within_trans, suits_before, place_after}
+use Rattle.run_host.proofs.Moments.{shown_on, moves_twice, dealt_twice, fits_before, same_trans, within_trans, suits_before, place_after}
 use Rattle.machine_host.specs.Asking as asking
 use Rattle.machine_host.specs.Asking.{Indexed, Loses, Tells, KeptGives}
 use Rattle.machine_host.proofs.Turns.{Asks, moves_same}
-use Rattle.machine_host.proofs.Halting.{Stopped, halts_leave, lost_leaves}
-use native.Mathlib.Nat.{le_refl}
+use Rattle.machine_host.proofs.Halting.{Stopped, lost_leaves}
 
 -- ---- a step that makes records and answers
 
@@ -59,12 +56,12 @@ comes_after l b (halts h) = halts (halted_then l (λ r s. record { holds = λ k.
 comes_after {m = m} {next = next} l b (fails {why = why} h) = fails (record { holds = λ k. subst (Follows (l ++ m) (next why)) (sym (b k)) (follows_add l m (next why) _ (h.holds k)) })
 
 module _ {A : Type 0} (f : Naming → Step A) (g : Naming → Small A) (asks : (nu : Naming) → Asks (f nu) (g nu)) where
-  pub gives_at : (m n : Moment) (a : Naming → A) (added : List Rec) → Same m n → Within m n → n.made ≡ m.made ++ added → AllDealt (meaning.words m.words) 0 added → Moves m n added
+  pub gives_at : (m n : Moment alone) (a : Naming → A) (added : List Rec) → Same m n → Within m n → n.made ≡ m.made ++ added → AllDealt (meaning.words m.words) 0 added → Moves m n added → n.stopped ≡ m.stopped
       → ((nu : Naming) → Fits nu n.heap.names → Clear nu m → Clear nu n)
       → ((nu : Naming) → Fits nu n.heap.names → (E : World) → Suits E n → Clear nu m → (k : A → St → Rest → Res) →
       run_steps (g nu) E m.trace m.heap.scope.path m.heap.scope.branch m.heap.scope.body k (m.heap.first nu) (rest_of m) ≡ add added (k (a nu) (n.heap.first nu) (rest_of n)))
       → Gives f a m n
-  gives_at m n a added same within made dealt moves clear d = record {
+  gives_at m n a added same within made dealt moves stopped clear d = record {
     goes = λ go. record {
       goes = λ said last r. record {
         same = same_trans same r.same;
@@ -73,7 +70,7 @@ module _ {A : Type 0} (f : Naming → Step A) (g : Naming → Small A) (asks : (
         made = r.made ∙ ap (λ l. l ++ r.added) made ∙ append_assoc m.made added r.added;
         dealt = dealt_twice added r.added dealt moves r.dealt;
         moved = λ nu z. moves_twice added r.added moves (r.moved nu z);
-        shown = r.shown;
+        shown = λ nu. shown_on (said nu) m.stopped n.stopped last.stopped stopped (r.shown nu);
         ran = λ nu fits E s bound l c.
             let fb = fits_before r.same.grows fits in
             let sb = suits_before r.same r.added r.made s in
@@ -88,9 +85,9 @@ module _ {A : Type 0} (f : Naming → Step A) (g : Naming → Small A) (asks : (
 
 -- a step that ends the run, where the world and what was made are known of
 module _ {A : Type 0} (f : Naming → Step A) (g : Naming → Small A) (asks : (nu : Naming) → Asks (f nu) (g nu)) where
-  pub halts_at : (m n : Moment) (h : Halt) (out : Out) → ((nu : Naming) → shown.IsOut h out) → Same m n → Within m n → n.made ≡ m.made → n.words ≡ m.words
+  pub halts_at : (m n : Moment alone) (h : Halt) (out : Out) → ((nu : Naming) → shown.IsOut h out) → Same m n → Within m n → n.made ≡ m.made → n.words ≡ m.words → n.stopped ≡ m.stopped
       → ((nu : Naming) → Fits nu n.heap.names → (E : World) → Suits E n → Clear nu m → Stopped (g nu) m E out (n.heap.first nu) (rest_of n) (m.heap.first nu)) → Leaves f (exit.Halted h) m n
-  halts_at m n h out is same within made drawn d = record {
+  halts_at m n h out is same within made drawn stopped d = record {
     ends = λ go. record {
       same = same;
       within = λ nu z. within;
@@ -98,7 +95,7 @@ module _ {A : Type 0} (f : Naming → Step A) (g : Naming → Small A) (asks : (
       made = made ∙ sym (append-nil m.made);
       dealt = tt;
       moved = λ nu z. moves_same drawn;
-      shown = λ nu. tt;
+      shown = λ nu. stopped;
       ran = λ nu fits E s bound l c.
           let q = d nu fits E s c in
           halts (record {
@@ -113,7 +110,7 @@ module _ {A : Type 0} (f : Naming → Step A) (g : Naming → Small A) (asks : (
     };
   }
 
-  pub refused_at : (m n : Moment) (why : AskStop) → Same m n → n.made ≡ m.made → ((nu : Naming) → IsShown (shown.Fails why) n.stopped)
+  pub refused_at : (m n : Moment alone) (why : AskStop) → Same m n → n.made ≡ m.made → ((nu : Naming) → IsShown (shown.Fails why) m.stopped n.stopped)
       → ((nu : Naming) → Fits nu n.heap.names → (E : World) → Suits E n → Clear nu m → (k : A → St → Rest → Res) →
       Follows [] (next_of E (draws_in n.made) n.unmade why) (run_steps (g nu) E m.trace m.heap.scope.path m.heap.scope.branch m.heap.scope.body k (m.heap.first nu) (rest_of m)))
       → Leaves f (exit.Stopped why) m n
@@ -200,7 +197,7 @@ drew_is (draws b) E n p f w e = by (draw_of E.dice n p b) e
 
 -- ---- an ask at its path
 
-module _ (q : Question) (f : Step (AnsOf q)) (is : Asks f (steps.ask q give)) (s : Asked) (m n : Moment) (trace : m.trace ≡ records_of s.trace) (made : m.made ≡ records_of s.made) (p : List ℕ) (x : Indexed p m n) where
+module _ (q : Question) (f : Step (AnsOf q)) (is : Asks f (steps.ask q give)) (s : Asked) (m n : Moment alone) (trace : m.trace ≡ records_of s.trace) (made : m.made ≡ records_of s.made) (p : List ℕ) (x : Indexed p m n) where
   abbrev at_call : Naming → Path
   at_call nu = sub (m.heap.first nu).calls m.heap.scope.path
 
@@ -233,16 +230,17 @@ module _ (q : Question) (f : Step (AnsOf q)) (is : Asks f (steps.ask q give)) (s
         | inr o ↦ (let e = one_index b.2 (subst (λ z. Under (at_call nu) z) (sym (here r o)) self) in let h = b.1 in omega (arith, e, h))
       ]
 
-  abbrev with_record : Record → (ℕ → ℕ) → Moment
+  abbrev with_record : Record → (ℕ → ℕ) → Moment alone
   with_record what v = record m { heap = n.heap; made = m.made ++ rec (path_in p) what ∷ []; words = v }
 
   ask_answered : told.at (known_to s) p ≡ None → told.below (known_to s) p ≡ false → (a : Fresh q) → (v : ℕ → ℕ) → asking.Draws m.words v (path_in p) a.what → ((E : World) → Suits E (with_record a.what v) → fresh q E (draws_in m.made) (path_in p) ≡ Some a) → Gives (λ nu. f) (λ nu. a.answer) m (with_record a.what v)
   ask_answered unfound unbelow a v drew_words d = gives_at (λ nu. f) (λ nu. steps.ask q give) (λ nu. is) m (with_record a.what v) (λ nu. a.answer) (rec (path_in p) a.what ∷ [])
-      (record { session = refl; trace = refl; pairs = refl; grows = grown })
+      (record { later = tt; session = refl; trace = refl; pairs = refl; grows = grown })
       (record { scope = x.scope; outer = x.outer; below = below_new; falls = let h = x.left in omega (arith, h) })
       refl
       (drew_words.dealt, tt)
       (record { on = drew_words.moved })
+      refl
       (λ nu fits c. clear_with nu fits c (rec (path_in p) a.what ∷ []) (λ r i. ap path_of (in_one i) ∙ x.path nu))
       (λ nu fits E su c k.
       let e = d E su in
@@ -252,7 +250,7 @@ module _ (q : Question) (f : Step (AnsOf q)) (is : Asks f (steps.ask q give)) (s
       ∙ (λ i. add (rec (sym (x.path nu) i) a.what ∷ []) (k a.answer (sym (x.first nu fits) i) (drawn i))))
 
   -- where nothing answers and the run waits
-  abbrev with_wait : Moment
+  abbrev with_wait : Moment alone
   with_wait = record m { heap = n.heap; waits = (noted q (rest_of m)).waits }
 
   noted_is : (z : Question) (left : ℕ) → left ≡ m.heap.left → noted z (rest_of m) ≡ record { left = left; drawn = draws_in m.made; forks = m.forks; waits = (noted z (rest_of m)).waits }
@@ -265,8 +263,9 @@ module _ (q : Question) (f : Step (AnsOf q)) (is : Asks f (steps.ask q give)) (s
 
   ask_missing : told.at (known_to s) p ≡ None → told.below (known_to s) p ≡ false → unanswered q ≡ waits → ((E : World) → Suits E with_wait → fresh q E (draws_in m.made) (path_in p) ≡ None) → Leaves (λ nu. f) (exit.Halted halt.Waits) m with_wait
   ask_missing unfound unbelow out d = halts_at (λ nu. f) (λ nu. steps.ask q give) (λ nu. is) m with_wait halt.Waits waits (λ nu. refl)
-      (record { session = refl; trace = refl; pairs = refl; grows = grown })
+      (record { later = tt; session = refl; trace = refl; pairs = refl; grows = grown })
       (record { scope = x.scope; outer = x.outer; below = below_new; falls = let h = x.left in omega (arith, h) })
+      refl
       refl
       refl
       (λ nu fits E su c. record {
@@ -285,7 +284,7 @@ module _ (q : Question) (f : Step (AnsOf q)) (is : Asks f (steps.ask q give)) (s
   noted_waits (draws b) = refl
 
   -- where the asker refused the record
-  abbrev with_refusal : AskStop → (ℕ → ℕ) → Moment
+  abbrev with_refusal : AskStop → (ℕ → ℕ) → Moment alone
   with_refusal why v = record m { heap = n.heap; stopped = Some why; unmade = moment.asking (path_in p) q; words = v }
 
   follows_fresh : (nu : Naming) (E : World) (k : AnsOf q → Rest → Res) (o : Option (Fresh q)) → (o ≡ None → unanswered q ≡ halted undrawn)
@@ -300,8 +299,8 @@ module _ (q : Question) (f : Step (AnsOf q)) (is : Asks f (steps.ask q give)) (s
   follows_why stop.TraceFull E r h = h
   follows_why stop.LogFull E r h = h
 
-  shown_why : (why : AskStop) → IsShown (shown.Fails why) (Some why)
-  shown_why stop.Memory = tt
+  shown_why : (why : AskStop) → IsShown (shown.Fails why) m.stopped (Some why)
+  shown_why stop.Memory = inr refl
   shown_why (stop.Fault which) = refl
   shown_why (stop.Diverged d) = refl
   shown_why stop.TraceFull = refl
@@ -310,7 +309,7 @@ module _ (q : Question) (f : Step (AnsOf q)) (is : Asks f (steps.ask q give)) (s
   ask_refused : told.at (known_to s) p ≡ None → told.below (known_to s) p ≡ false → (why : AskStop) → (v : ℕ → ℕ) → ((E : World) → Suits E (with_refusal why v) → fresh q E (draws_in m.made) (path_in p) ≡ None → unanswered q ≡ halted undrawn)
       → Leaves (λ nu. f) (exit.Stopped why) m (with_refusal why v)
   ask_refused unfound unbelow why v d = refused_at (λ nu. f) (λ nu. steps.ask q give) (λ nu. is) m (with_refusal why v) why
-      (record { session = refl; trace = refl; pairs = refl; grows = grown }) refl (λ nu. shown_why why)
+      (record { later = tt; session = refl; trace = refl; pairs = refl; grows = grown }) refl (λ nu. shown_why why)
       (λ nu fits E su c k.
       let o = fresh q E (draws_in m.made) (path_in p) in
       follows_why why E _ (subst (λ r. Follows [] (shown.next_fresh (path_in p) o) r)
@@ -318,7 +317,7 @@ module _ (q : Question) (f : Step (AnsOf q)) (is : Asks f (steps.ask q give)) (s
       (follows_fresh nu E (λ a w. k a (next_call (m.heap.first nu)) w) o (d E su))))
 
   -- where a record answers, or diverges
-  abbrev with_index : Moment
+  abbrev with_index : Moment alone
   with_index = record m { heap = n.heap }
 
   found_there : (r : Record) → told.at (known_to s) p ≡ Some r → (nu : Naming) → Clear nu m → (z : Path) × (find (at_call nu) m.trace ≡ Some (rec z r))
@@ -326,11 +325,12 @@ module _ (q : Question) (f : Step (AnsOf q)) (is : Asks f (steps.ask q give)) (s
 
   ask_kept : (r : Record) → told.at (known_to s) p ≡ Some r → (a : AnsOf q) → kept_answer q m.session (path_in p) r ≡ Some a → Gives (λ nu. f) (λ nu. a) m with_index
   ask_kept r here a e = gives_at (λ nu. f) (λ nu. steps.ask q give) (λ nu. is) m with_index (λ nu. a) []
-      (record { session = refl; trace = refl; pairs = refl; grows = grown })
+      (record { later = tt; session = refl; trace = refl; pairs = refl; grows = grown })
       (record { scope = x.scope; outer = x.outer; below = below_new; falls = let h = x.left in omega (arith, h) })
       (sym (append-nil m.made))
       tt
       (moves_same refl)
+      refl
       (λ nu fits c r i z. clear_with nu fits c [] (λ r o. elim o [ ]) r (subst (λ l. In Rec r l) (sym (append-nil m.made)) i) z)
       (λ nu fits E su c k.
       let o = found_there r here nu c in
@@ -345,8 +345,9 @@ module _ (q : Question) (f : Step (AnsOf q)) (is : Asks f (steps.ask q give)) (s
       run_steps (steps.ask q give) E m.trace m.heap.scope.path m.heap.scope.branch m.heap.scope.body k (m.heap.first nu) (rest_of m) ≡ res (halted (diverged d)) (next_call (m.heap.first nu)) (rest_of m))
       → Leaves (λ nu. f) y m with_index
   diverges_at y d t run = subst (λ y. Leaves (λ nu. f) y m with_index) (sym t.1) (halts_at (λ nu. f) (λ nu. steps.ask q give) (λ nu. is) m with_index (halt.Diverges t.0) (halted (diverged d)) (λ nu. (d, t.2, refl))
-      (record { session = refl; trace = refl; pairs = refl; grows = grown })
+      (record { later = tt; session = refl; trace = refl; pairs = refl; grows = grown })
       (record { scope = x.scope; outer = x.outer; below = below_new; falls = let h = x.left in omega (arith, h) })
+      refl
       refl
       refl
       (λ nu fits E su c. record { at = next_call (m.heap.first nu); left = m.heap.left; like = same_first nu fits; fuel = sym x.left; is = λ k. run nu fits E su c k }))
@@ -367,26 +368,26 @@ module _ (q : Question) (f : Step (AnsOf q)) (is : Asks f (steps.ask q give)) (s
 
   -- ---- as the functions tell of them
 
-  pub kept_takes : (l : Moment) → l ≡ with_index → (r : Record) → told.at (known_to s) p ≡ Some r → (y : Result (AnsOf q) Exit) → KeptGives q m.session (path_in p) r y → Takes (λ nu. f) (λ nu a. a) y m l
+  pub kept_takes : (l : Moment alone) → l ≡ with_index → (r : Record) → told.at (known_to s) p ≡ Some r → (y : Result (AnsOf q) Exit) → KeptGives q m.session (path_in p) r y → Takes (λ nu. f) (λ nu a. a) y m l
   kept_takes l e r here y h = subst (λ l. Takes (λ nu. f) (λ nu a. a) y m l) (sym e) (by y h)
     where
       by : (y : Result (AnsOf q) Exit) → KeptGives q m.session (path_in p) r y → Takes (λ nu. f) (λ nu a. a) y m (record m { heap = n.heap })
       by (Ok a) h = ask_kept r here a h
-      by (Err y) (inl lost) = subst (λ y. Leaves (λ nu. f) y m (record m { heap = n.heap })) (sym lost) (lost_leaves m (record m { heap = n.heap }) (record { session = refl; trace = refl; pairs = refl; grows = grown }) refl)
+      by (Err y) (inl lost) = subst (λ y. Leaves (λ nu. f) y m (record m { heap = n.heap })) (sym lost) (lost_leaves m (record m { heap = n.heap }) (record { later = tt; session = refl; trace = refl; pairs = refl; grows = grown }) refl refl)
       by (Err y) (inr d) = ask_diverges r here d.0 y d.1
 
-  pub below_takes : {B : Type 0} (h : Naming → B → AnsOf q) (l : Moment) → l ≡ with_index → told.at (known_to s) p ≡ None → told.below (known_to s) p ≡ true → (y : Exit) → (y ≡ exit.Stopped stop.Memory) ⊎ Tells y (diverges (path_in p) found_below (called_by q)) → Leaves (λ nu. f) y m l
+  pub below_takes : {B : Type 0} (h : Naming → B → AnsOf q) (l : Moment alone) → l ≡ with_index → told.at (known_to s) p ≡ None → told.below (known_to s) p ≡ true → (y : Exit) → (y ≡ exit.Stopped stop.Memory) ⊎ Tells y (diverges (path_in p) found_below (called_by q)) → Leaves (λ nu. f) y m l
   below_takes h l e unfound low y t = subst (λ l. Leaves (λ nu. f) y m l) (sym e) (by t)
     where
       by : (y ≡ exit.Stopped stop.Memory) ⊎ Tells y (diverges (path_in p) found_below (called_by q)) → Leaves (λ nu. f) y m (record m { heap = n.heap })
-      by (inl lost) = subst (λ y. Leaves (λ nu. f) y m (record m { heap = n.heap })) (sym lost) (lost_leaves m (record m { heap = n.heap }) (record { session = refl; trace = refl; pairs = refl; grows = grown }) refl)
+      by (inl lost) = subst (λ y. Leaves (λ nu. f) y m (record m { heap = n.heap })) (sym lost) (lost_leaves m (record m { heap = n.heap }) (record { later = tt; session = refl; trace = refl; pairs = refl; grows = grown }) refl refl)
       by (inr d) = ask_below unfound low y d
 
-  pub ask_takes : (l : Moment) → told.at (known_to s) p ≡ None → told.below (known_to s) p ≡ false → (y : Result (AnsOf q) Exit) → asking.Asks q (path_in p) (record m { heap = n.heap }) l y → Takes (λ nu. f) (λ nu a. a) y m l
+  pub ask_takes : (l : Moment alone) → told.at (known_to s) p ≡ None → told.below (known_to s) p ≡ false → (y : Result (AnsOf q) Exit) → asking.Asks q (path_in p) (record m { heap = n.heap }) l y → Takes (λ nu. f) (λ nu a. a) y m l
   ask_takes l unfound low (Ok a) (asking.answered f' v e w d) = subst (λ l. Gives (λ nu. f) (λ nu. f'.answer) m l) (sym e) (ask_answered unfound low f' v w (λ E su. d E (subst (Suits E) (sym e) su)))
   ask_takes l unfound low (Err y) (asking.missing e out d) =
       let g : l ≡ with_wait = e ∙ ap (λ w. record m { heap = n.heap; waits = w }) (noted_waits q) in
       subst (λ l. Leaves (λ nu. f) (exit.Halted halt.Waits) m l) (sym g) (ask_missing unfound low out (λ E su. d E (subst (Suits E) (sym g) su)))
   ask_takes l unfound low (Err y) (asking.refused why v e d) = subst (λ l. Leaves (λ nu. f) (exit.Stopped why) m l) (sym e) (ask_refused unfound low why v (λ E su. d E (subst (Suits E) (sym e) su)))
   ask_takes l unfound low (Err y) (asking.lost z h) = subst (λ y. Leaves (λ nu. f) y m l) (sym h.is)
-      (lost_leaves m l (same_trans {a = m} {b = record m { heap = n.heap }} {c = l} (record { session = refl; trace = refl; pairs = refl; grows = grown }) h.same) h.made)
+      (lost_leaves m l (same_trans {a = m} {b = record m { heap = n.heap }} {c = l} (record { later = tt; session = refl; trace = refl; pairs = refl; grows = grown }) h.same) h.made h.stopped)

@@ -45,7 +45,7 @@ use Rattle.run_host.specs.declared.Exit.TheVariants as exit
 use Rattle.run_host.specs.declared.Halt.TheVariants as halt
 use Rattle.run_host.specs.declared.Refusal.{Refusal}
 use Rattle.run_host.specs.declared.Refusal.TheVariants as refusal
-use Rattle.run_host.specs.Moment.{Moment, Unmade, rest_of, Clear, place, Same, Within}
+use Rattle.run_host.specs.Moment.{alone, Moment, Unmade, rest_of, Clear, place, Same, Within}
 use Rattle.run_host.specs.Told as shown
 use Rattle.run_host.specs.Told.{told_exit, told_value, exit_needs, refusal_in}
 use Rattle.run_host.specs.Ends.{says, halts}
@@ -71,10 +71,10 @@ same_calls : (a b : Run) (q : Path) → Changes (λ nu σ. once_call q σ) (seen
 same_calls a b q c = let x = naming (seen_of b).names in ap (λ (σ : St). σ.calls) (c.first x.0 x.1)
 
 module _ {X : Type 0} (seen : X → Asked) (words : X → ℕ → ℕ) (run : AskedRun X) (b : Run) (c : Changes (λ nu σ. once_call (heap_of run).scope.branch σ) (heap_of run) (seen_of b)) where
-  abbrev ruled : Moment
+  abbrev ruled : Moment alone
   ruled = with_heap (moment_of seen words run) (seen_of b)
 
-  pub counted : (new : Moment) (p : List ℕ) → Indexed p ruled new → CountsOnce p (moment_of seen words run) new
+  pub counted : (new : Moment alone) (p : List ℕ) → Indexed p ruled new → CountsOnce p (moment_of seen words run) new
   counted new p x = record {
     names = x.names ∙ c.names;
     scope = x.scope ∙ c.scope;
@@ -85,11 +85,12 @@ module _ {X : Type 0} (seen : X → Asked) (words : X → ℕ → ℕ) (run : As
     rest = x.rest;
   }
 
-  pub lost_counting : (new : Moment) (y : Exit) → Loses y ruled new → Loses y (moment_of seen words run) new
+  pub lost_counting : (new : Moment alone) (y : Exit) → Loses y ruled new → Loses y (moment_of seen words run) new
   lost_counting new y l = record {
     is = l.is;
-    same = record { session = l.same.session; trace = l.same.trace; pairs = l.same.pairs; grows = λ i n e. l.same.grows i n (ap (λ ns. slice_get ns i) c.names ∙ e) };
+    same = record { later = tt; session = l.same.session; trace = l.same.trace; pairs = l.same.pairs; grows = λ i n e. l.same.grows i n (ap (λ ns. slice_get ns i) c.names ∙ e) };
     made = l.made;
+    stopped = l.stopped;
   }
 
 pub if_ok : {A B : Type 0} {P Q : A → Type 0} (r : Result A B) → ((a : A) → P a → Q a) → IfOk r P → IfOk r Q
@@ -175,7 +176,7 @@ other_diverges (kept.Reply t u) h z σ w k x p = refl
 other_diverges (kept.Draw b v) h z σ w k x p = refl
 other_diverges (kept.Once d) h z σ w k x p = absurd (h d refl)
 
-module _ (s : Asked) (m n : Moment) (trace : m.trace ≡ records_of s.trace) (made : m.made ≡ records_of s.made) (p : List ℕ) (x : CountsOnce p m n) where
+module _ (s : Asked) (m n : Moment alone) (trace : m.trace ≡ records_of s.trace) (made : m.made ≡ records_of s.made) (p : List ℕ) (x : CountsOnce p m n) where
   abbrev at_once : Naming → Path
   at_once nu = sub (m.heap.first nu).calls m.heap.scope.path
 
@@ -207,17 +208,18 @@ module _ (s : Asked) (m n : Moment) (trace : m.trace ≡ records_of s.trace) (ma
 
     -- ---- a record of another kind
 
-    abbrev with_count : Moment
+    abbrev with_count : Moment alone
     with_count = record m { heap = n.heap }
 
     counted_same : Same m with_count
-    counted_same = record { session = refl; trace = refl; pairs = refl; grows = grown }
+    counted_same = record { later = tt; session = refl; trace = refl; pairs = refl; grows = grown }
 
     differs : (r : Record) → told.at (known_to s) p ≡ Some r → ((d : Data) → r ≡ kept.Once d → ⊥) → (y : Exit) → Tells y (diverges (path_in p) (found_kept r) called_once) → Runs (λ nu. Once (g nu)) (λ nu. told_exit nu y) m with_count
     differs r at h y t = subst (λ y. Runs (λ nu. Once (g nu)) (λ nu. told_exit nu y) m with_count) (sym t.1)
         (program_halts (λ nu. Once (g nu)) m with_count (halt.Diverges t.0) (halted (diverged (diverges (path_in p) (found_kept r) called_once))) (diverges (path_in p) (found_kept r) called_once, t.2, refl)
         counted_same
         (record { scope = x.scope; outer = x.outer; below = λ i name e l. let h = slice_get_within n.heap.names i name e in absurd (let q = ap length x.names in omega (arith, h, q, l)); falls = let h = x.left in omega (arith, h) })
+        refl
         refl
         refl
         (λ nu fits E bound su c.
@@ -234,12 +236,12 @@ module _ (s : Asked) (m n : Moment) (trace : m.trace ≡ records_of s.trace) (ma
         )))
 
     differs_lost : (y : Exit) → y ≡ exit.Stopped stop.Memory → Runs (λ nu. Once (g nu)) (λ nu. told_exit nu y) m with_count
-    differs_lost y e = program_lost (λ nu. Once (g nu)) m with_count y (record { is = e; same = counted_same; made = refl })
+    differs_lost y e = program_lost (λ nu. Once (g nu)) m with_count y (record { is = e; same = counted_same; made = refl; stopped = refl })
 
     -- ---- the kept data is put
 
     module _ (d : Data) (at : told.at (known_to s) p ≡ Some (kept.Once d)) (t : Seen) (stays : Stays n.heap t) where
-      abbrev with_data : Moment
+      abbrev with_data : Moment alone
       with_data = record m { heap = t }
 
       abbrev come : Naming → Comes Val
@@ -269,7 +271,7 @@ module _ (s : Asked) (m n : Moment) (trace : m.trace ≡ records_of s.trace) (ma
       put_fell c e h = let y = naming t.names in let l = h y.0 (put_holds y.0 (c y.0) (e y.0 y.1)) in let q = x.left in omega (arith, l, q)
 
       put_same : Same m with_data
-      put_same = record { session = refl; trace = refl; pairs = refl; grows = λ i name e. stays.grows i name (grown i name e) }
+      put_same = record { later = tt; session = refl; trace = refl; pairs = refl; grows = λ i name e. stays.grows i name (grown i name e) }
 
       put_within : t.left ≤ m.heap.left → Within m with_data
       put_within l = record {
@@ -280,7 +282,7 @@ module _ (s : Asked) (m n : Moment) (trace : m.trace ≡ records_of s.trace) (ma
       }
 
       put_refused : (y : model.Refusal) (z : Refusal) → refusal_in z ≡ y → ((nu : Naming) → Fits nu t.names → come nu ≡ stops y (t.first nu) t.left) → Runs (λ nu. Once (g nu)) (λ nu. shown.Halts (halt.Refused z)) m with_data
-      put_refused y z is did = program_halts (λ nu. Once (g nu)) m with_data (halt.Refused z) (ended (bar y)) (ap (λ y. ended (bar y)) (sym is)) put_same (put_within (put_fell (λ nu. stops y (t.first nu) t.left) did (λ nu h. h.0))) refl refl
+      put_refused y z is did = program_halts (λ nu. Once (g nu)) m with_data (halt.Refused z) (ended (bar y)) (ap (λ y. ended (bar y)) (sym is)) put_same (put_within (put_fell (λ nu. stops y (t.first nu) t.left) did (λ nu h. h.0))) refl refl refl
           (λ nu fits E bound su c. (t.first nu, t.left, record { text = refl; verdict = refl; gone = refl }, refl, λ k. put_is nu fits E bound c (stops y (t.first nu) t.left) (did nu fits) tt k))
 
       put_spent : KeepsGone n.heap t → ((nu : Naming) → Fits nu t.names → (σ : St) × (l : ℕ) × (come nu ≡ spends σ l) × Kept σ (t.first nu)) → Runs (λ nu. Once (g nu)) (λ nu. shown.Halts halt.Spent) m with_data
@@ -291,7 +293,7 @@ module _ (s : Asked) (m n : Moment) (trace : m.trace ≡ records_of s.trace) (ma
         made = sym (append-nil m.made);
         dealt = tt;
         moved = λ nu z. absurd z;
-        shown = λ nu. tt;
+        shown = λ nu. refl;
         ran = λ nu fits E su bound l c.
             let q = did nu fits in
             let h = put_holds nu (spends q.0 q.1) q.2 in
@@ -314,14 +316,14 @@ module _ (s : Asked) (m n : Moment) (trace : m.trace ≡ records_of s.trace) (ma
         made = sym (append-nil m.made);
         dealt = tt;
         moved = λ nu z. moves_same refl;
-        shown = λ nu. tt;
+        shown = λ nu. refl;
         ran = λ nu fits E su bound l c. says (record { holds = λ k. put_is nu fits E bound c (goes (val_in nu v) (t.first nu) t.left) (did nu fits) tt k });
       }
       put_runs (Err heap.NotWhole) did gone = put_refused model.NotWhole refusal.NotWhole refl did
       put_runs (Err heap.NoPrimitive) did gone = put_refused model.NoPrimitive refusal.NoPrimitive refl did
       put_runs (Err heap.TooLong) did gone = put_refused model.TooLong refusal.TooLong refl did
       put_runs (Err heap.Spent) did gone = put_spent gone did
-      put_runs (Err heap.Memory) did gone = program_lost (λ nu. Once (g nu)) m with_data (exit.Stopped stop.Memory) (record { is = refl; same = put_same; made = refl })
+      put_runs (Err heap.Memory) did gone = program_lost (λ nu. Once (g nu)) m with_data (exit.Stopped stop.Memory) (record { is = refl; same = put_same; made = refl; stopped = refl })
 
     -- what the record gave
     pub record_gives : (r : Record) → told.at (known_to s) p ≡ Some r → (t : Seen) → Stays n.heap t → (y : Result Value Exit) → OnceGives (path_in p) r n.heap t y → Runs (λ nu. Once (g nu)) (λ nu. told_value nu y) m (record m { heap = t })
@@ -334,18 +336,20 @@ module _ (s : Asked) (m n : Moment) (trace : m.trace ≡ records_of s.trace) (ma
         by (inl lost) = differs_lost h.exit lost
         by (inr d) = differs r at h.other h.exit d
 
-  pub once_opened : (l : Moment) → IsTold m.heap → told.at (known_to s) p ≡ None → Enters (path_in p) false n.heap l.heap → l ≡ record m { heap = l.heap } → OpensOnce m l
+  pub once_opened : (l : Moment alone) → IsTold m.heap → told.at (known_to s) p ≡ None → Enters (path_in p) false n.heap l.heap → l ≡ record m { heap = l.heap } → OpensOnce m l
   once_opened l known none e is = record {
     opens = record {
+      later = tt;
       cells = record { own = known.own; there = known.there; only = known.only };
       names = e.names ∙ x.names;
       left = e.left ∙ x.left;
-      session = ap (λ (q : Moment). q.session) is;
-      trace = ap (λ (q : Moment). q.trace) is;
-      pairs = ap (λ (q : Moment). q.pairs) is;
-      made = ap (λ (q : Moment). q.made) is;
-      words = ap (λ (q : Moment). q.words) is;
-      waits = ap (λ (q : Moment). q.waits) is;
+      session = ap (λ (q : Moment alone). q.session) is;
+      trace = ap (λ (q : Moment alone). q.trace) is;
+      pairs = ap (λ (q : Moment alone). q.pairs) is;
+      made = ap (λ (q : Moment alone). q.made) is;
+      words = ap (λ (q : Moment alone). q.words) is;
+      waits = ap (λ (q : Moment alone). q.waits) is;
+      stopped = ap (λ (q : Moment alone). q.stopped) is;
       outer = e.outer ∙ (λ i. x.scope i ∷ x.outer i);
       first = λ nu fits. e.first nu ∙ ap enter (x.first nu (subst (Fits nu) (sym x.names) fits));
       back = λ nu fits. e.back nu ∙ x.first nu (subst (Fits nu) (sym x.names) fits);
@@ -354,18 +358,18 @@ module _ (s : Asked) (m n : Moment) (trace : m.trace ≡ records_of s.trace) (ma
     };
     branch = e.branch_is ∙ ap (λ (c : Scope). c.branch) x.scope;
     body = e.body;
-    forks = ap (λ (q : Moment). q.forks) is;
+    forks = ap (λ (q : Moment alone). q.forks) is;
   }
 
 -- ---- a once call as its function tells of it
 
 module _ {X : Type 0} (seen : X → Asked) (words : X → ℕ → ℕ) (old mid : AskedRun X) (known : X) (p : List ℕ) (x : CountsOnce p (moment_of seen words old) (moment_of seen words mid)) (asker : mid.asker ≡ old.asker)
     (asked : seen known ≡ asked_at (seen mid.asker) p) (drawn : (k : ℕ) → words known k ≡ words mid.asker k) where
-  abbrev once_now : Seen → Moment
+  abbrev once_now : Seen → Moment alone
   once_now t = moment_at t (seen known) (words known) (notes_of mid.notes)
 
   once_is : (t : Seen) → once_now t ≡ record (moment_of seen words old) { heap = t }
-  once_is t = (λ i. moment_at t (asked i) (λ k. drawn k i) (notes_of mid.notes)) ∙ ap (λ (q : Moment). record q { heap = t }) x.rest
+  once_is t = (λ i. moment_at t (asked i) (λ k. drawn k i) (notes_of mid.notes)) ∙ ap (λ (q : Moment alone). record q { heap = t }) x.rest
 
   traced : (moment_of seen words old).trace ≡ records_of (seen mid.asker).trace
   traced = λ i. records_of (seen (sym asker i)).trace
@@ -388,10 +392,11 @@ module _ {X : Type 0} (seen : X → Asked) (words : X → ℕ → ℕ) (old mid 
     pub once_not_entered : heap_of new ≡ heap_of mid → (y : Exit) → y ≡ exit.Stopped stop.Memory → (g : Naming → Prog) → Runs (λ nu. Once (g nu)) (λ nu. told_exit nu y) (moment_of seen words old) (moment_of seen words new)
     once_not_entered same y e g = program_lost (λ nu. Once (g nu)) (moment_of seen words old) (moment_of seen words new) y (record {
       is = e;
-      same = subst (Same (moment_of seen words old)) (sym (new_is ∙ ap (λ t. record (moment_of seen words old) { heap = t }) same)) (record { session = refl; trace = refl; pairs = refl; grows = λ i name e. ap (λ l. slice_get l i) x.names ∙ e });
-      made = ap (λ (q : Moment). q.made) new_is;
+      same = subst (Same (moment_of seen words old)) (sym (new_is ∙ ap (λ t. record (moment_of seen words old) { heap = t }) same)) (record { later = tt; session = refl; trace = refl; pairs = refl; grows = λ i name e. ap (λ l. slice_get l i) x.names ∙ e });
+      made = ap (λ (q : Moment alone). q.made) new_is;
+      stopped = ap (λ (q : Moment alone). q.stopped) new_is;
     })
 
-pub once_exit : {A : Type 0} (r : Result A Exit) (e : Exit) (m n : Moment) → IsErrAnd r (λ y. y ≡ e) → Loses e m n → IfErr r (λ y. (g : Naming → Prog) → Runs (λ nu. Once (g nu)) (λ nu. told_exit nu y) m n)
+pub once_exit : {A : Type 0} (r : Result A Exit) (e : Exit) (m n : Moment alone) → IsErrAnd r (λ y. y ≡ e) → Loses e m n → IfErr r (λ y. (g : Naming → Prog) → Runs (λ nu. Once (g nu)) (λ nu. told_exit nu y) m n)
 once_exit (Ok a) e m n h l = absurd h
-once_exit (Err y) e m n h l = λ g. program_lost (λ nu. Once (g nu)) m n y (record { is = h ∙ l.is; same = l.same; made = l.made })
+once_exit (Err y) e m n h l = λ g. program_lost (λ nu. Once (g nu)) m n y (record { is = h ∙ l.is; same = l.same; made = l.made; stopped = l.stopped })

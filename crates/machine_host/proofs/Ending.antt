@@ -1,6 +1,6 @@
 -- Scopes that were opened for a call, and end.
 use Rattle.std.specs.Prelude.{Bool, false, slice_get, Result, Ok, Err, OnOk, IfErr}
-use Rattle.std.proofs.Common.{◌≡◌, IsErrAnd, ◌<◌, ◌+◌, ℕ, refl, sym, ap, subst, ◌∙◌, arith, ◌++◌}
+use Rattle.std.proofs.Common.{inl, ◌≡◌, IsErrAnd, ◌<◌, ℕ, refl, sym, ap, subst, ◌∙◌, arith, ◌++◌}
 use Rattle.turk_base.specs.Names.{Path, sub}
 use Rattle.turk_base.specs.Prog.{Prog, Fork}
 use Rattle.turk_base.specs.State.{St, any_gone, next_call, enter, leave, give_value, cut_all, threw, absent}
@@ -16,20 +16,20 @@ use Rattle.run_host.specs.declared.Exit.{Exit}
 use Rattle.run_host.specs.declared.Exit.TheVariants as exit
 use Rattle.run_host.specs.declared.Halt.TheVariants as halt
 use Rattle.run_host.specs.declared.Refusal.{Refusal}
-use Rattle.run_host.specs.Moment.{Moment, cells, rest_of, draws_in, AllDealt, Suits, Clear, place, Same, Within}
+use Rattle.run_host.specs.Moment.{alone, Moment, cells, rest_of, draws_in, AllDealt, Suits, Clear, place, Same, Within}
 use Rattle.run_host.specs.Told.{Told, Says, Halts, Fails, GoesOn, next_of, told_exit}
 use Rattle.run_host.specs.Ends.{Comes, says, halts}
 use Rattle.run_host.specs.Did.{Runs}
 use Rattle.run_host.specs.Scopes.{Local, OpensFork, told_fork}
-use Rattle.run_host.proofs.Moments.{fits_before, same_trans}
+use Rattle.run_host.proofs.Moments.{shown_on, fits_before, same_trans}
 use Rattle.machine_host.specs.Leaving.{LeftKeep, LeftBack, LeftWith, joined_in, EndsFork}
 use Rattle.machine_host.specs.Asking.{Loses}
-use Rattle.machine_host.proofs.Scoped.{Went, went_by, run_fails, suits_same, same_opened, unfound_is, clear_opened, made_now, dealt_now, moves_now, fits_now, path_is, back_is, kept_runs, its_naming, fits_its, own_is, program_is, clear_its, same_back, within_back, first_back}
+use Rattle.machine_host.proofs.Scoped.{Went, went_by, run_fails, suits_same, same_opened, unfound_is, clear_opened, made_now, stopped_now, dealt_now, moves_now, fits_now, path_is, back_is, kept_runs, its_naming, fits_its, own_is, program_is, clear_its, same_back, within_back, first_back}
 use Rattle.machine_host.proofs.Branched.{EndsAbsent, EndsRun, fork_absent, fork_joined, fork_threw, fork_refused, fork_ends, fork_lost}
 
 -- ---- branches
 
-module _ {g : Naming → Prog} {told : Naming → Told} {before opened ended : Moment} (o : OpensFork before opened) (r : Runs g told opened ended) where
+module _ {g : Naming → Prog} {told : Naming → Told} {before opened ended : Moment alone} (o : OpensFork before opened) (r : Runs g told opened ended) where
   place_is : (E : World) (bound : ℕ) (nu : Naming) → place E bound opened ≡ in_branch (place E bound before) (before.heap.first nu)
   place_is E bound nu = λ i. record { world = E; trace = o.opens.trace i; bound = bound; scope = o.opens.path nu i; branch = (o.branch ∙ o.opens.path nu) i; body = o.body i }
 
@@ -59,7 +59,7 @@ module _ {g : Naming → Prog} {told : Naming → Told} {before opened ended : M
     made = r.made ∙ ap (λ l. l ++ r.added) o.opens.made;
     dealt = subst (λ w. AllDealt (words w) 0 r.added) o.opens.words r.dealt;
     moved = λ nu z. absurd (no_more (told nu) (d nu) z);
-    shown = r.shown;
+    shown = λ nu. shown_on (told nu) before.stopped opened.stopped ended.stopped o.opens.stopped (r.shown nu);
     ran = λ nu fits E su bound l c. fork_ends (place E bound before) (g nu) (before.heap.first nu) (rest_of before) o.here (unfound_is o.opens nu) r.added (ended.heap.first nu) (rest_of ended) (next_of E (draws_in ended.made) ended.unmade) (told nu) (branch_came nu fits E su bound l c) (d nu);
   }
     where
@@ -79,18 +79,19 @@ module _ {g : Naming → Prog} {told : Naming → Told} {before opened ended : M
     gone_at nu b d = ap (λ p. any_gone p (ended.heap.first nu).gone) (sym (path_is o.opens went nu)) ∙ d
 
     -- memory ran out
-    pub ends_lost : (new : Moment) → Same ended new → new.made ≡ ended.made → Runs (λ nu. Fork (g nu)) (λ nu. Fails stop.Memory) before new
-    ends_lost new same made = run_fails stop.Memory r.added (same_trans same_ended same) (made ∙ made_now o.opens went) (dealt_now o.opens went) tt
+    pub ends_lost : (new : Moment alone) → Same ended new → new.made ≡ ended.made → new.stopped ≡ ended.stopped → Runs (λ nu. Fork (g nu)) (λ nu. Fails stop.Memory) before new
+    ends_lost new same made stopped = run_fails stop.Memory r.added (same_trans same_ended same) (made ∙ made_now o.opens went) (dealt_now o.opens went) (inl (stopped ∙ stopped_now o.opens went))
         (λ nu fits E su bound l c. fork_lost (place E bound before) (g nu) (before.heap.first nu) (rest_of before) o.here (unfound_is o.opens nu) r.added (ended.heap.first nu) (rest_of ended) (next_of E (draws_in ended.made) ended.unmade) (told nu)
         (branch_came nu (fits_before same.grows fits) E (suits_same same made su) bound l c) (goes nu))
 
     -- the branch is taken back
-    module _ {p : Path} {new : Moment} (k : LeftBack (absent p) ended new) where
+    module _ {p : Path} {new : Moment alone} (k : LeftBack (absent p) ended new) where
       same_left : Same before new
       same_left = record {
-        session = ap (λ (m : Moment). m.session) k.rest ∙ same_ended.session;
-        trace = ap (λ (m : Moment). m.trace) k.rest ∙ same_ended.trace;
-        pairs = ap (λ (m : Moment). m.pairs) k.rest ∙ same_ended.pairs;
+        later = tt;
+        session = ap (λ (m : Moment alone). m.session) k.rest ∙ same_ended.session;
+        trace = ap (λ (m : Moment alone). m.trace) k.rest ∙ same_ended.trace;
+        pairs = ap (λ (m : Moment alone). m.pairs) k.rest ∙ same_ended.pairs;
         grows = λ i n e. ap (λ l. slice_get l i) k.changes.names ∙ (same_back o.opens went k.leaves k.was k.is).grows i n e;
       }
 
@@ -109,9 +110,9 @@ module _ {g : Naming → Prog} {told : Naming → Told} {before opened ended : M
 
       suits_left : (E : World) → Suits E new → Suits E ended
       suits_left E su = record {
-        session = su.session ∙ ap (λ (m : Moment). m.session) k.rest;
-        pairs = su.pairs ∙ ap (λ (m : Moment). m.pairs) k.rest;
-        dealt = subst (λ l. AllDealt E.dice 0 l) (ap (λ (m : Moment). m.made) k.rest) su.dealt;
+        session = su.session ∙ ap (λ (m : Moment alone). m.session) k.rest;
+        pairs = su.pairs ∙ ap (λ (m : Moment alone). m.pairs) k.rest;
+        dealt = subst (λ l. AllDealt E.dice 0 l) (ap (λ (m : Moment alone). m.made) k.rest) su.dealt;
       }
 
       pub ends_absent : p ≡ ended.heap.scope.path → ((nu : Naming) → Fits nu ended.heap.names → EndsAbsent (told nu) (any_gone ended.heap.scope.path (ended.heap.first nu).gone)) → Local (cells before) g
@@ -120,10 +121,10 @@ module _ {g : Naming → Prog} {told : Naming → Told} {before opened ended : M
         same = same_left;
         within = λ nu z. within_left;
         added = r.added;
-        made = ap (λ (m : Moment). m.made) k.rest ∙ made_now o.opens went;
+        made = ap (λ (m : Moment alone). m.made) k.rest ∙ made_now o.opens went;
         dealt = dealt_now o.opens went;
-        moved = λ nu z. moves_now o.opens went new (ap (λ (m : Moment). m.words) k.rest);
-        shown = λ nu. tt;
+        moved = λ nu z. moves_now o.opens went new (ap (λ (m : Moment alone). m.words) k.rest);
+        shown = λ nu. ap (λ (m : Moment alone). m.stopped) k.rest ∙ stopped_now o.opens went;
         ran = λ nu fits E su bound l c.
             let s = before.heap.scope.path in
             let fb : Fits nu before.heap.names = fits_before same_left.grows fits in
@@ -142,7 +143,7 @@ module _ {g : Naming → Prog} {told : Naming → Told} {before opened ended : M
       }
 
     -- no branch is absent in it
-    module _ {new : Moment} (k : LeftKeep ended new) (there_are : (nu : Naming) → Fits nu ended.heap.names → any_gone ended.heap.scope.path (ended.heap.first nu).gone ≡ false) where
+    module _ {new : Moment alone} (k : LeftKeep ended new) (there_are : (nu : Naming) → Fits nu ended.heap.names → any_gone ended.heap.scope.path (ended.heap.first nu).gone ≡ false) where
       joined_is : (nu : Naming) → Fits nu ended.heap.names → leave (ended.heap.scope.back nu) (cut_all ended.heap.scope.path (ended.heap.first nu))
           ≡ leave (next_call (before.heap.first nu)) (cut_all (sub (before.heap.first nu).calls before.heap.scope.path) (ended.heap.first nu))
       joined_is nu fits = λ i. leave (back_is o.opens went nu (fits_now o.opens went fits) i) (cut_all (path_is o.opens went nu i) (ended.heap.first nu))
@@ -150,7 +151,7 @@ module _ {g : Naming → Prog} {told : Naming → Told} {before opened ended : M
       pub ends_joined : (v : Naming → Val) → ((nu : Naming) → told nu ≡ Says (Normal (v nu)))
           → ((nu : Naming) → Fits nu new.heap.names → new.heap.first nu ≡ give_value (v nu) (leave (ended.heap.scope.back nu) (cut_all ended.heap.scope.path (ended.heap.first nu))))
           → Runs (λ nu. Fork (g nu)) (λ nu. Says (Normal Undefined)) before new
-      ends_joined v is first = kept_runs o.opens went k (λ nu. Fork (g nu)) (λ nu. Says (Normal Undefined)) (λ nu. tt)
+      ends_joined v is first = kept_runs o.opens went k (λ nu. Fork (g nu)) (λ nu. Says (Normal Undefined)) (λ nu e. e)
           (λ nu fe fits E su bound l c.
           let next = next_of E (draws_in ended.made) ended.unmade in
           let p = place E bound before in
@@ -161,7 +162,7 @@ module _ {g : Naming → Prog} {told : Naming → Told} {before opened ended : M
       pub ends_thrown : (v : Naming → Val) → ((nu : Naming) → told nu ≡ Says (Throw (v nu)))
           → ((nu : Naming) → Fits nu new.heap.names → new.heap.first nu ≡ threw ended.heap.scope.path (leave (ended.heap.scope.back nu) (cut_all ended.heap.scope.path (ended.heap.first nu))))
           → Runs (λ nu. Fork (g nu)) (λ nu. Says (Throw (v nu))) before new
-      ends_thrown v is first = kept_runs o.opens went k (λ nu. Fork (g nu)) (λ nu. Says (Throw (v nu))) (λ nu. tt)
+      ends_thrown v is first = kept_runs o.opens went k (λ nu. Fork (g nu)) (λ nu. Says (Throw (v nu))) (λ nu e. e)
           (λ nu fe fits E su bound l c.
           let next = next_of E (draws_in ended.made) ended.unmade in
           let p = place E bound before in
@@ -173,7 +174,7 @@ module _ {g : Naming → Prog} {told : Naming → Told} {before opened ended : M
       pub ends_refused : (y : Refusal) → ((nu : Naming) → told nu ≡ Halts (halt.Refused y))
           → ((nu : Naming) → Fits nu new.heap.names → new.heap.first nu ≡ leave (ended.heap.scope.back nu) (ended.heap.first nu))
           → Runs (λ nu. Fork (g nu)) (λ nu. Halts (halt.Refused y)) before new
-      ends_refused y is first = kept_runs o.opens went k (λ nu. Fork (g nu)) (λ nu. Halts (halt.Refused y)) (λ nu. tt)
+      ends_refused y is first = kept_runs o.opens went k (λ nu. Fork (g nu)) (λ nu. Halts (halt.Refused y)) (λ nu e. e)
           (λ nu fe fits E su bound l c.
           let next = next_of E (draws_in ended.made) ended.unmade in
           let p = place E bound before in
@@ -184,21 +185,21 @@ module _ {g : Naming → Prog} {told : Naming → Told} {before opened ended : M
 
 -- ---- as the functions tell of them
 
-module _ {told : Naming → Told} (goes : (nu : Naming) → GoesOn (told nu)) (old new : Moment) where
+module _ {told : Naming → Told} (goes : (nu : Naming) → GoesOn (told nu)) (old new : Moment alone) where
   pub lost_ends : (x : Exit) → Loses x old new → EndsFork told old (λ nu. told_exit nu x) new
-  lost_ends x l g before opened local o run = subst (λ x. Runs (λ nu. Fork (g nu)) (λ nu. told_exit nu x) before new) (sym l.is) (ends_lost o run goes new l.same l.made)
+  lost_ends x l g before opened local o run = subst (λ x. Runs (λ nu. Fork (g nu)) (λ nu. told_exit nu x) before new) (sym l.is) (ends_lost o run goes new l.same l.made l.stopped)
 
   -- the exit that is handed on
   pub exit_ends : (r : Result (Unit {0}) Exit) (e : Exit) → IsErrAnd r (λ y. y ≡ e) → Loses e old new → EndsFork told old (λ nu. told_fork nu r) new
   exit_ends (Ok u) e h l = absurd h
-  exit_ends (Err y) e h l = lost_ends y (record { is = h ∙ l.is; same = l.same; made = l.made })
+  exit_ends (Err y) e h l = lost_ends y (record { is = h ∙ l.is; same = l.same; made = l.made; stopped = l.stopped })
 
   pub absent_ends : {p : Path} (r : Result (Unit {0}) Exit) → p ≡ old.heap.scope.path → ((nu : Naming) → Fits nu old.heap.names → EndsAbsent (told nu) (any_gone old.heap.scope.path (old.heap.first nu).gone))
       → OnOk r (LeftBack (absent p) old new) → IfErr r (λ x. Loses x old new) → EndsFork told old (λ nu. told_fork nu r) new
   absent_ends (Ok u) is d k l g before opened local o run = ends_absent o run goes k is d local
   absent_ends (Err x) is d k l g before opened local o run = lost_ends x l g before opened local o run
 
-module _ (old new : Moment) (there_are : (nu : Naming) → Fits nu old.heap.names → any_gone old.heap.scope.path (old.heap.first nu).gone ≡ false) where
+module _ (old new : Moment alone) (there_are : (nu : Naming) → Fits nu old.heap.names → any_gone old.heap.scope.path (old.heap.first nu).gone ≡ false) where
   pub given_ends : (v : Value) (r : Result (Unit {0}) Exit) → OnOk r (LeftWith (λ nu. give_value (val_in nu v) (joined_in old nu)) old new) → IfErr r (λ x. Loses x old new)
       → EndsFork (λ nu. Says (Normal (val_in nu v))) old (λ nu. told_fork nu r) new
   given_ends v (Ok u) k l g before opened local o run = ends_joined o run (λ nu. tt) k.keeps there_are (λ nu. val_in nu v) (λ nu. refl) k.first_is
@@ -211,5 +212,5 @@ module _ (old new : Moment) (there_are : (nu : Naming) → Fits nu old.heap.name
   refused_ends y k g before opened local o run = ends_refused o run (λ nu. tt) k.keeps there_are y (λ nu. refl) k.first_is
 
 -- where the branch ended the run
-pub run_ends : {told : Naming → Told} (old : Moment) → ((nu : Naming) → EndsRun (told nu)) → EndsFork told old told old
+pub run_ends : {told : Naming → Told} (old : Moment alone) → ((nu : Naming) → EndsRun (told nu)) → EndsFork told old told old
 run_ends old d g before opened local o run = ends_run o run d

@@ -1,6 +1,6 @@
 -- What the asker did of an ask that has no record at its path.
-use Rattle.std.specs.Prelude.{ℤ, pos, int_rem, List, map, Option, Some, None, Result, Ok, Err, IfOk, Bool}
-use Rattle.std.proofs.Common.{◌≡◌, ◌+◌, arith, IsErrAnd, ℕ, suc, refl, sym, ap, subst, ◌∙◌, [], ◌∷◌, ◌++◌, inl, inr, ◌⊎◌}
+use Rattle.std.specs.Prelude.{ℤ, pos, int_rem, List, Option, Some, None, Result, Ok, Err, Bool}
+use Rattle.std.proofs.Common.{◌≡◌, ◌+◌, arith, IsErrAnd, ℕ, refl, sym, ap, subst, ◌∙◌, [], ◌∷◌, ◌++◌, inl, inr}
 use Rattle.std.proofs.lemmas.List.{map-append}
 use Rattle.turk_base.specs.Names.{Path, path_in}
 use Rattle.turk_base.specs.declared.Record.{Record}
@@ -11,26 +11,25 @@ use Rattle.turk_base.specs.Asks.{Question, posts, replies, draws, AnsOf, Rec, re
 use Rattle.turk_base.specs.Trace as told
 use Rattle.turk_base.specs.Trace.{token_of}
 use Rattle.turk_base.specs.Told.{record_of, records_of}
-use Rattle.js_tree.specs.Run.{waits, halted, undrawn, unanswered}
-use Rattle.js_tree.specs.World.{World, Draws, Fresh, fresh, fresh_reply, fresh_draw, draw_of}
+use Rattle.js_tree.specs.Run.{halted, undrawn, unanswered}
+use Rattle.js_tree.specs.World.{World, Draws, fresh, fresh_reply, fresh_draw, draw_of}
 use Rattle.meaning_laws.proofs.Tied.{token_tied, answer_tied}
 use Rattle.ask_model.specs.declared.AskStop.{AskStop}
 use Rattle.ask_model.specs.declared.AskStop.TheVariants.{Memory}
-use Rattle.ask_model.specs.Asker.{Seen as Asked, entry, stop_of, Adds, Stays, made_after, Replies, Drawn}
+use Rattle.ask_model.specs.Asker.{Seen as Asked, entry, Adds, Replies}
 use Rattle.value_cells.specs.Seen.{Seen}
 use Rattle.run_host.specs.declared.Exit.{Exit}
-use Rattle.run_host.specs.declared.Exit.TheVariants.{Halted, Stopped}
-use Rattle.run_host.specs.declared.Halt.TheVariants.{Waits}
-use Rattle.run_host.specs.Moment.{Moment, asking, drawn_by, draws_in, Deals, AllDealt, Suits, Same}
+use Rattle.run_host.specs.declared.Exit.TheVariants.{Stopped}
+use Rattle.run_host.specs.Moment.{alone, Moment, asking, drawn_by, draws_in, Deals, AllDealt, Suits, Same}
 use Rattle.run_host.proofs.Moments.{same_refl}
 use Rattle.machine_host.specs.Moments.{Notes, moment_at}
 use Rattle.machine_host.specs.Asking as spec
 use Rattle.machine_host.specs.Asking.{Loses, Refuses, AwaitsTask, Asks}
 
-pub none_made : {q : Question} {p : Path} (m : Moment) (y : Exit) → y ≡ Stopped Memory → Asks q p m m (Err y)
-none_made m y e = spec.lost y (record { is = e; same = same_refl; made = refl })
+pub none_made : {q : Question} {p : Path} (m : Moment alone) (y : Exit) → y ≡ Stopped Memory → Asks q p m m (Err y)
+none_made m y e = spec.lost y (record { is = e; same = same_refl; made = refl; stopped = refl })
 
-pub none_exit : {q : Question} {p : Path} (m : Moment) (r : Result (AnsOf q) Exit) (e : Exit) → IsErrAnd r (λ x. x ≡ e) → e ≡ Stopped Memory → Asks q p m m r
+pub none_exit : {q : Question} {p : Path} (m : Moment alone) (r : Result (AnsOf q) Exit) (e : Exit) → IsErrAnd r (λ x. x ≡ e) → e ≡ Stopped Memory → Asks q p m m r
 none_exit m (Ok a) e h is = absurd h
 none_exit m (Err y) e h is = none_made m y (h ∙ is)
 
@@ -52,15 +51,15 @@ module _ (heap : Seen) (s t : Asked) (before after : ℕ → ℕ) (notes : Notes
 
 -- ---- a call that was refused
 
-same_words : {m n : Moment} {v : ℕ → ℕ} → Same (record m { words = v }) n → Same m n
-same_words h = record { session = h.session; trace = h.trace; pairs = h.pairs; grows = h.grows }
+same_words : {m n : Moment alone} {v : ℕ → ℕ} → Same (record m { words = v }) n → Same m n
+same_words h = record { later = tt; session = h.session; trace = h.trace; pairs = h.pairs; grows = h.grows }
 
-pub refused_asks : (q : Question) (p : Path) (old mid new : Moment) (why : AskStop) (y : Exit) (v : ℕ → ℕ) → mid ≡ record old { words = v } → Refuses (asking p q) why y mid new
+pub refused_asks : (q : Question) (p : Path) (old mid new : Moment alone) (why : AskStop) (y : Exit) (v : ℕ → ℕ) → mid ≡ record old { words = v } → Refuses (asking p q) why y mid new
     → ((E : World) → E.pairs ≡ old.pairs → fresh q E (draws_in old.made) p ≡ None → unanswered q ≡ halted undrawn) → Asks q p old new (Err y)
 refused_asks q p old mid new why y v e (inl (is, n)) lacks =
-    let g = n ∙ ap (λ (m : Moment). record m { stopped = Some why; unmade = asking p q }) e in
-    subst (λ y. Asks q p old new (Err y)) (sym is) (spec.refused why v g (λ E su. lacks E (su.pairs ∙ ap (λ (m : Moment). m.pairs) g)))
-refused_asks q p old mid new why y v e (inr l) lacks = spec.lost y (record { is = l.is; same = same_words (subst (λ m. Same m new) e l.same); made = l.made ∙ ap (λ (m : Moment). m.made) e })
+    let g = n ∙ ap (λ (m : Moment alone). record m { stopped = Some why; unmade = asking p q }) e in
+    subst (λ y. Asks q p old new (Err y)) (sym is) (spec.refused why v g (λ E su. lacks E (su.pairs ∙ ap (λ (m : Moment alone). m.pairs) g)))
+refused_asks q p old mid new why y v e (inr l) lacks = spec.lost y (record { is = l.is; same = same_words (subst (λ m. Same m new) e l.same); made = l.made ∙ ap (λ (m : Moment alone). m.made) e; stopped = l.stopped ∙ ap (λ (m : Moment alone). m.stopped) e })
 
 some_none : {A : Type 0} {x : A} → Some x ≡ None → ⊥
 some_none e = cc
@@ -120,7 +119,7 @@ draw_asks heap s t before after notes fits later p bound value told a word next 
     (spec.answered (record { answer = value; what = kept.Draw bound value }) after n
     (record { dealt = ap Some (sym word ∙ e); moved = next })
     (λ E su.
-    let dealt = subst (AllDealt E.dice 0) (ap (λ (m : Moment). m.made) n) su.dealt in
+    let dealt = subst (AllDealt E.dice 0) (ap (λ (m : Moment alone). m.made) n) su.dealt in
     ap (fresh_draw bound) (subst (λ k. draw_of E.dice k (path_in p) bound ≡ Some value) (after_is (records_of s.made)) (dealt_last E.dice (path_in p) (kept.Draw bound value) (records_of s.made) 0 dealt))))
 
 -- ---- replies
@@ -134,11 +133,11 @@ err_text (Ok o) = None
 err_text (Err e) = Some []
 
 -- the reply that the snapshot has
-reply_there : (E : World) (m : Moment) (pairs : List (List ℕ × List ℕ)) (key text : List ℕ) (n : ℕ) (p : Path) → m.pairs ≡ pairs → Suits E m → told.answer pairs key ≡ Some text → fresh (replies key) E n p ≡ Some (record { answer = text; what = kept.Reply key text })
+reply_there : (E : World) (m : Moment alone) (pairs : List (List ℕ × List ℕ)) (key text : List ℕ) (n : ℕ) (p : Path) → m.pairs ≡ pairs → Suits E m → told.answer pairs key ≡ Some text → fresh (replies key) E n p ≡ Some (record { answer = text; what = kept.Reply key text })
 unfolding fresh
 reply_there E m pairs key text n p e su h = ap (fresh_reply key) (ap (λ l. answer l key) (su.pairs ∙ e) ∙ answer_tied pairs key ∙ h)
 
-reply_none : (E : World) (m : Moment) (pairs : List (List ℕ × List ℕ)) (key : List ℕ) (n : ℕ) (p : Path) → m.pairs ≡ pairs → Suits E m → told.answer pairs key ≡ None → fresh (replies key) E n p ≡ None
+reply_none : (E : World) (m : Moment alone) (pairs : List (List ℕ × List ℕ)) (key : List ℕ) (n : ℕ) (p : Path) → m.pairs ≡ pairs → Suits E m → told.answer pairs key ≡ None → fresh (replies key) E n p ≡ None
 unfolding fresh
 reply_none E m pairs key n p e su h = ap (fresh_reply key) (ap (λ l. answer l key) (su.pairs ∙ e) ∙ answer_tied pairs key ∙ h)
 
@@ -183,8 +182,8 @@ unfolding fresh
 reply_lacks pairs key text p n E e h none = absurd (some_none (sym (ap (fresh_reply key) (ap (λ l. answer l key) e ∙ answer_tied pairs key ∙ h)) ∙ none))
 
 -- the run waits for the reply
-pub waits_for : (key : List ℕ) (p : Path) (old mid new : Moment) (y : Exit) (pairs : List (List ℕ × List ℕ)) → old.pairs ≡ pairs → mid ≡ old → told.answer pairs key ≡ None → AwaitsTask key y mid new → Asks (replies key) p old new (Err y)
+pub waits_for : (key : List ℕ) (p : Path) (old mid new : Moment alone) (y : Exit) (pairs : List (List ℕ × List ℕ)) → old.pairs ≡ pairs → mid ≡ old → told.answer pairs key ≡ None → AwaitsTask key y mid new → Asks (replies key) p old new (Err y)
 waits_for key p old mid new y pairs e same none (inl (is, n)) =
-    let g : new ≡ record old { waits = old.waits ++ task key ∷ [] } = n ∙ ap (λ (m : Moment). record m { waits = m.waits ++ task key ∷ [] }) same in
-    subst (λ y. Asks (replies key) p old new (Err y)) (sym is) (spec.missing g refl (λ E su. reply_none E new pairs key (draws_in old.made) p (ap (λ (m : Moment). m.pairs) g ∙ e) su none))
-waits_for key p old mid new y pairs e same none (inr l) = spec.lost y (record { is = l.is; same = subst (λ m. Same m new) same l.same; made = l.made ∙ ap (λ (m : Moment). m.made) same })
+    let g : new ≡ record old { waits = old.waits ++ task key ∷ [] } = n ∙ ap (λ (m : Moment alone). record m { waits = m.waits ++ task key ∷ [] }) same in
+    subst (λ y. Asks (replies key) p old new (Err y)) (sym is) (spec.missing g refl (λ E su. reply_none E new pairs key (draws_in old.made) p (ap (λ (m : Moment alone). m.pairs) g ∙ e) su none))
+waits_for key p old mid new y pairs e same none (inr l) = spec.lost y (record { is = l.is; same = subst (λ m. Same m new) same l.same; made = l.made ∙ ap (λ (m : Moment alone). m.made) same; stopped = l.stopped ∙ ap (λ (m : Moment alone). m.stopped) same })

@@ -1,17 +1,17 @@
 -- Requests that end a scope's run, and built-in calls.
 use Rattle.std.specs.Prelude.{◌-◌, nat_lt, Bool, true, false, map, Option, Some, None, Result, Ok, Err}
-use Rattle.std.proofs.Common.{◌≡◌, ◌≤◌, ℕ, refl, sym, ap, subst, ◌∙◌, arith, List, [], ◌∷◌, ◌++◌, append-nil}
+use Rattle.std.proofs.Common.{inl, ◌≡◌, ℕ, refl, sym, ap, subst, ◌∙◌, arith, List, [], ◌∷◌, ◌++◌, append-nil}
 use Rattle.std.proofs.lemmas.Bool.Decides.{nat_tests}
 use Rattle.turk_base.specs.Names.{Path}
 use Rattle.turk_base.specs.Values as model
 use Rattle.turk_base.specs.Values.{Val, Outcome, Wait, crashed}
 use Rattle.turk_base.specs.Asks.{Rec}
 use Rattle.turk_base.specs.Prog.{Prog, Done, Join, MayFork, Crash, ask}
-use Rattle.turk_base.specs.State.{St, Op, join, forks_here, crash, AnswerTo, Act, act, act_join, act_forks, op_cost, any_gone, too_many}
+use Rattle.turk_base.specs.State.{St, Op, join, forks_here, crash, AnswerTo, act, act_join, act_forks, op_cost, any_gone, too_many}
 use Rattle.turk_base.specs.Steps.{Small, give, step, steps_of, joined}
 use Rattle.js_tree.specs.Run.{Out, ended, waits, bar, Res, res, pay_if, on_act, run_steps, run}
 use Rattle.js_tree.specs.World.{World, Rest, told_by}
-use Rattle.run_laws.proofs.Sequel.{Place, run_at}
+use Rattle.run_laws.proofs.Sequel.{run_at}
 use Rattle.builtin_calls.specs.declared.CallEnd.{CallEnd}
 use Rattle.builtin_calls.specs.declared.CallEnd.TheVariants as end
 use Rattle.builtin_calls.specs.Ended.{end_in}
@@ -19,25 +19,25 @@ use Rattle.value_cells.specs.declared.OpStop.{OpStop}
 use Rattle.value_cells.specs.declared.OpStop.TheVariants as heap
 use Rattle.value_cells.specs.declared.Value.{Value}
 use Rattle.value_cells.specs.Seen.{Naming, Seen, Fits, val_in}
-use Rattle.value_cells.specs.Comes.{Comes, goes, then_goes, acted, charged, comes}
+use Rattle.value_cells.specs.Comes.{goes, then_goes, acted, charged, comes}
 use Rattle.value_cells.specs.Does as does
 use Rattle.value_cells.specs.Does.{Stays, Did, Says, Spends, told, comes_from}
 use Rattle.run_heap.specs.Works.{Performs}
 use Rattle.eval_ops.specs.Run.{Run, seen_of}
-use Rattle.eval_ops.specs.Calls.{Joined, Joins, join_from}
+use Rattle.eval_ops.specs.Calls.{Joins, join_from}
 use Rattle.run_host.specs.declared.Halt.{Halt}
 use Rattle.run_host.specs.declared.Halt.TheVariants as halt
 use Rattle.run_host.specs.declared.Refusal.TheVariants as refusal
 use Rattle.run_host.specs.declared.Exit.{Exit}
 use Rattle.run_host.specs.declared.Exit.TheVariants as exit
-use Rattle.run_host.specs.Moment.{Moment, rest_of, draws_in, place, Same, Within}
+use Rattle.run_host.specs.Moment.{alone, Moment, rest_of, place, Same, Within}
 use Rattle.run_host.specs.Told as shown
 use Rattle.run_host.specs.Told.{IsOut, told_value}
 use Rattle.run_laws.proofs.Fronts.{front}
 use Rattle.ask_model.specs.declared.AskStop.TheVariants as stop
 use Rattle.run_host.specs.Ends.{Like, halts, fails}
 use Rattle.run_host.specs.Did.{Runs}
-use Rattle.run_host.specs.Steps.{Step, Leaves, Gives, Takes}
+use Rattle.run_host.specs.Steps.{Step, Leaves, Gives}
 use Rattle.run_host.proofs.Moments.{same_refl, within_refl}
 use Rattle.run_host.proofs.Sequence.{ends_with}
 use Rattle.machine_host.specs.Exits.{exit_at, value_at}
@@ -76,7 +76,7 @@ module _ {A : Type 0} (o : Op) (go : AnswerTo o → Small A) (s b : Path) (body 
 -- ---- a request that ends the run of its scope
 
 -- what it comes to under a naming
-pub record Stopped {A : Type 0} (g : Small A) (m : Moment) (E : World) (out : Out) (τ : St) (rest : Rest) (σ : St) : Type 0 where
+pub record Stopped {A : Type 0} (g : Small A) (m : Moment alone) (E : World) (out : Out) (τ : St) (rest : Rest) (σ : St) : Type 0 where
   pub at : St
   pub left : ℕ
   pub like : Like at τ
@@ -84,9 +84,9 @@ pub record Stopped {A : Type 0} (g : Small A) (m : Moment) (E : World) (out : Ou
   pub is : (k : A → St → Rest → Res) → run_steps g E m.trace m.heap.scope.path m.heap.scope.branch m.heap.scope.body k σ (rest_of m) ≡ res out at (record rest { left = left })
 
 module _ {A : Type 0} (f : Naming → Step A) (g : Naming → Small A) (asks : (nu : Naming) → Asks (f nu) (g nu)) where
-  pub halts_leave : (m n : Moment) (h : Halt) (out : Out) → IsOut h out → Same m n → Within m n → n.made ≡ m.made → n.words ≡ m.words
+  pub halts_leave : (m n : Moment alone) (h : Halt) (out : Out) → IsOut h out → Same m n → Within m n → n.made ≡ m.made → n.words ≡ m.words → n.stopped ≡ m.stopped
       → ((nu : Naming) → Fits nu n.heap.names → (E : World) → Stopped (g nu) m E out (n.heap.first nu) (rest_of n) (m.heap.first nu)) → Leaves f (exit.Halted h) m n
-  halts_leave m n h out is same within made drawn d = record {
+  halts_leave m n h out is same within made drawn stopped d = record {
     ends = λ go. record {
       same = same;
       within = λ nu z. within;
@@ -94,7 +94,7 @@ module _ {A : Type 0} (f : Naming → Step A) (g : Naming → Small A) (asks : (
       made = made ∙ sym (append-nil m.made);
       dealt = tt;
       moved = λ nu z. moves_same drawn;
-      shown = λ nu. tt;
+      shown = λ nu. stopped;
       ran = λ nu fits E s bound l c.
           let q = d nu fits E in
           halts (record {
@@ -111,9 +111,9 @@ module _ {A : Type 0} (f : Naming → Step A) (g : Naming → Small A) (asks : (
 
 -- ---- forks and crashes
 
-pub forks_refused : (m : Moment) → m.heap.scope.body ≡ true → Leaves (λ nu. ask MayFork) (exit.Halted (halt.Refused refusal.ForkInOnce)) m m
+pub forks_refused : (m : Moment alone) → m.heap.scope.body ≡ true → Leaves (λ nu. ask MayFork) (exit.Halted (halt.Refused refusal.ForkInOnce)) m m
 unfolding steps_of act
-forks_refused m e = halts_leave (λ nu. ask MayFork) (λ nu. steps_of MayFork) (λ nu. asks_of MayFork) m m (halt.Refused refusal.ForkInOnce) (ended (bar model.ForkInOnce)) refl same_refl within_refl refl refl
+forks_refused m e = halts_leave (λ nu. ask MayFork) (λ nu. steps_of MayFork) (λ nu. asks_of MayFork) m m (halt.Refused refusal.ForkInOnce) (ended (bar model.ForkInOnce)) refl same_refl within_refl refl refl refl
     (λ nu fits E. record {
       at = m.heap.first nu;
       left = m.heap.left;
@@ -123,7 +123,7 @@ forks_refused m e = halts_leave (λ nu. ask MayFork) (λ nu. steps_of MayFork) (
           ∙ ap (λ b. on_act (act_forks b (m.heap.first nu)) (m.heap.first nu) (rest_of m) (λ a τ x. run_steps (give a) E m.trace m.heap.scope.path m.heap.scope.branch m.heap.scope.body k τ x)) e;
     })
 
-pub forks_allowed : (m : Moment) → m.heap.scope.body ≡ false → Gives (λ nu. ask MayFork) (λ nu. tt) m m
+pub forks_allowed : (m : Moment alone) → m.heap.scope.body ≡ false → Gives (λ nu. ask MayFork) (λ nu. tt) m m
 unfolding steps_of act comes
 forks_allowed m e = looked (λ nu. ask MayFork) (λ nu. steps_of MayFork) (λ nu. asks_of MayFork) (λ nu. tt) m (record {
   stays = record { scope = refl; outer = refl; grows = λ i n q. q; below = (within_refl {m = m}).below };
@@ -133,8 +133,8 @@ forks_allowed m e = looked (λ nu. ask MayFork) (λ nu. steps_of MayFork) (λ nu
 })
 
 -- where memory ran out, whatever changed but the records made
-pub lost_leaves : {A : Type 0} {f : Naming → Step A} (m n : Moment) → Same m n → n.made ≡ m.made → Leaves f (exit.Stopped stop.Memory) m n
-lost_leaves m n same made = record {
+pub lost_leaves : {A : Type 0} {f : Naming → Step A} (m n : Moment alone) → Same m n → n.made ≡ m.made → n.stopped ≡ m.stopped → Leaves f (exit.Stopped stop.Memory) m n
+lost_leaves m n same made stopped = record {
   ends = λ go. record {
     same = same;
     within = λ nu z. absurd z;
@@ -142,15 +142,15 @@ lost_leaves m n same made = record {
     made = made ∙ sym (append-nil m.made);
     dealt = tt;
     moved = λ nu z. absurd z;
-    shown = λ nu. tt;
+    shown = λ nu. inl stopped;
     ran = λ nu fits E s bound l c. fails (record { holds = λ k. front _ refl });
   };
 }
 
-abbrev pub waiting_for : Moment → Wait → Moment
+abbrev pub waiting_for : Moment alone → Wait → Moment alone
 waiting_for m w = record m { waits = m.waits ++ w ∷ [] }
 
-crash_is : (m : Moment) (nu : Naming) (E : World) → Stopped (steps_of Crash) m E waits (m.heap.first nu) (rest_of (waiting_for m (crashed m.heap.scope.path))) (m.heap.first nu)
+crash_is : (m : Moment alone) (nu : Naming) (E : World) → Stopped (steps_of Crash) m E waits (m.heap.first nu) (rest_of (waiting_for m (crashed m.heap.scope.path))) (m.heap.first nu)
 unfolding steps_of act
 crash_is m nu E = record {
   at = m.heap.first nu;
@@ -160,10 +160,10 @@ crash_is m nu E = record {
   is = λ k. free_runs crash give m.heap.scope.path m.heap.scope.branch m.heap.scope.body (m.heap.first nu) refl E m.trace k (rest_of m);
 }
 
-pub crashes : (m n : Moment) → n ≡ waiting_for m (crashed m.heap.scope.path) → Leaves (λ nu. ask Crash) (exit.Halted halt.Waits) m n
+pub crashes : (m n : Moment alone) → n ≡ waiting_for m (crashed m.heap.scope.path) → Leaves (λ nu. ask Crash) (exit.Halted halt.Waits) m n
 crashes m n e = subst (λ n. Leaves (λ nu. ask Crash) (exit.Halted halt.Waits) m n) (sym e)
     (halts_leave (λ nu. ask Crash) (λ nu. steps_of Crash) (λ nu. asks_of Crash) m (waiting_for m (crashed m.heap.scope.path)) halt.Waits waits refl
-    (record { session = refl; trace = refl; pairs = refl; grows = λ i n q. q }) (record { scope = refl; outer = refl; below = (within_refl {m = m}).below; falls = le_refl m.heap.left }) refl refl (λ nu fits E. crash_is m nu E))
+    (record { later = tt; session = refl; trace = refl; pairs = refl; grows = λ i n q. q }) (record { scope = refl; outer = refl; below = (within_refl {m = m}).below; falls = le_refl m.heap.left }) refl refl refl (λ nu fits E. crash_is m nu E))
 
 pub more_waits : (l : List Code) (w : Code) → map wait_in (l ++ w ∷ []) ≡ map wait_in l ++ wait_in w ∷ []
 more_waits [] w = refl
@@ -171,11 +171,11 @@ more_waits (x ∷ l) w = ap (λ r. wait_in x ∷ r) (more_waits l w)
 
 -- ---- joining
 
-join_comes : (m : Moment) (body : Bool) (nu : Naming) → m.heap.scope.body ≡ body → comes_from (steps_of (Join true)) nu m.heap ≡ comes (steps_of (Join true)) m.heap.scope.path m.heap.scope.branch body (m.heap.first nu) m.heap.left
+join_comes : (m : Moment alone) (body : Bool) (nu : Naming) → m.heap.scope.body ≡ body → comes_from (steps_of (Join true)) nu m.heap ≡ comes (steps_of (Join true)) m.heap.scope.path m.heap.scope.branch body (m.heap.first nu) m.heap.left
 join_comes m body nu e = ap (λ b. comes (steps_of (Join true)) m.heap.scope.path m.heap.scope.branch b (m.heap.first nu) m.heap.left) e
 
 -- what the step of joining comes to, by its tests
-join_is : (m : Moment) (nu : Naming) (E : World) (k : Val → St → Rest → Res) (body gone many : Bool) → m.heap.scope.body ≡ body → any_gone m.heap.scope.path (m.heap.first nu).gone ≡ gone → too_many true (m.heap.first nu).vals ≡ many →
+join_is : (m : Moment alone) (nu : Naming) (E : World) (k : Val → St → Rest → Res) (body gone many : Bool) → m.heap.scope.body ≡ body → any_gone m.heap.scope.path (m.heap.first nu).gone ≡ gone → too_many true (m.heap.first nu).vals ≡ many →
     run_steps (steps_of (Join true)) E m.trace m.heap.scope.path m.heap.scope.branch m.heap.scope.body k (m.heap.first nu) (rest_of m)
     ≡ on_act (act_join body gone many m.heap.scope.path (m.heap.first nu)) (m.heap.first nu) (rest_of m) (λ vs τ x. run_steps (joined true vs) E m.trace m.heap.scope.path m.heap.scope.branch m.heap.scope.body k τ x)
 unfolding steps_of act
@@ -183,8 +183,8 @@ join_is m nu E k body gone many b g t =
     free_runs (join true) (λ vs. joined true vs) m.heap.scope.path m.heap.scope.branch m.heap.scope.body (m.heap.first nu) refl E m.trace k (rest_of m)
     ∙ (λ i. on_act (act_join (b i) (g i) (t i) m.heap.scope.path (m.heap.first nu)) (m.heap.first nu) (rest_of m) (λ vs τ x. run_steps (joined true vs) E m.trace m.heap.scope.path m.heap.scope.branch m.heap.scope.body k τ x))
 
-pub join_refused : (m : Moment) → m.heap.scope.body ≡ true → Leaves (λ nu. ask (Join true)) (exit.Halted (halt.Refused refusal.ForkInOnce)) m m
-join_refused m e = halts_leave (λ nu. ask (Join true)) (λ nu. steps_of (Join true)) (λ nu. asks_of (Join true)) m m (halt.Refused refusal.ForkInOnce) (ended (bar model.ForkInOnce)) refl same_refl within_refl refl refl
+pub join_refused : (m : Moment alone) → m.heap.scope.body ≡ true → Leaves (λ nu. ask (Join true)) (exit.Halted (halt.Refused refusal.ForkInOnce)) m m
+join_refused m e = halts_leave (λ nu. ask (Join true)) (λ nu. steps_of (Join true)) (λ nu. asks_of (Join true)) m m (halt.Refused refusal.ForkInOnce) (ended (bar model.ForkInOnce)) refl same_refl within_refl refl refl refl
     (λ nu fits E. record {
       at = m.heap.first nu;
       left = m.heap.left;
@@ -197,7 +197,7 @@ join_refused m e = halts_leave (λ nu. ask (Join true)) (λ nu. steps_of (Join t
 same_like : {σ τ : St} → τ ≡ σ → Like σ τ
 same_like e = record { text = ap (λ s. s.text) (sym e); verdict = ap (λ s. s.verdict) (sym e); gone = ap (λ s. s.gone) (sym e) }
 
-module _ (m : Moment) (t : Seen) (here : m.heap.scope.body ≡ false) where
+module _ (m : Moment alone) (t : Seen) (here : m.heap.scope.body ≡ false) where
   join_stops : (h : Halt) (out : Out) → IsOut h out → Stays m.heap t
       → ((nu : Naming) → Fits nu t.names → (E : World) → (t.first nu ≡ m.heap.first nu) × (t.left ≡ m.heap.left) × ((k : Val → St → Rest → Res) →
       run_steps (steps_of (Join true)) E m.trace m.heap.scope.path m.heap.scope.branch m.heap.scope.body k (m.heap.first nu) (rest_of m) ≡ res out (m.heap.first nu) (rest_of m)))
@@ -205,7 +205,7 @@ module _ (m : Moment) (t : Seen) (here : m.heap.scope.body ≡ false) where
   join_stops h out is stays d =
       let n = naming t.names in
       let low = (d n.0 n.1 (record { session = m.session; pairs = m.pairs; dice = told_by [] })).1 in
-      halts_leave (λ nu. ask (Join true)) (λ nu. steps_of (Join true)) (λ nu. asks_of (Join true)) m (with_heap m t) h out is (same_heap m t stays) (within_heap m t stays (omega (arith, low))) refl refl
+      halts_leave (λ nu. ask (Join true)) (λ nu. steps_of (Join true)) (λ nu. asks_of (Join true)) m (with_heap m t) h out is (same_heap m t stays) (within_heap m t stays (omega (arith, low))) refl refl refl
       (λ nu fits E. let q = d nu fits E in record { at = m.heap.first nu; left = m.heap.left; like = same_like q.0; fuel = sym q.1; is = q.2 })
 
   pub join_waits : (o : Option Value) → o ≡ None → Joins true (Ok o) m.heap t → Leaves (λ nu. ask (Join true)) (exit.Halted halt.Waits) m (with_heap m t)
@@ -237,7 +237,7 @@ module _ (m : Moment) (t : Seen) (here : m.heap.scope.body ≡ false) where
 
 -- ---- built-in calls
 
-module _ (g : Naming → Prog) (m : Moment) (t : Seen) (stays : Stays m.heap t) where
+module _ (g : Naming → Prog) (m : Moment alone) (t : Seen) (stays : Stays m.heap t) where
   said_run : (o : Naming → Outcome) → ((nu : Naming) → Fits nu t.names → does.ends_from (g nu) nu m.heap ≡ goes (o nu) (t.first nu) t.left) → Runs g (λ nu. shown.Says (o nu)) m (with_heap m t)
   unfolding run
   said_run o d = answered_run (program_came g m) t stays {g = λ nu. Done (o nu)} o d (λ nu c k. refl) ends_with

@@ -1,10 +1,10 @@
 -- Paths of calls, and what records answer posts.
 use Rattle.std.specs.Prelude.{Result, Ok, Err, IfOk, IfErr}
 use Rattle.std.proofs.Common.{◌≡◌, refl, sym, ap, subst, ◌∙◌, ℕ, List, [], ◌∷◌, ◌++◌, Some, None, inl}
-use Rattle.turk_base.specs.Names.{Path, root, sub, path_on, path_in, Units, units_eq, pick}
+use Rattle.turk_base.specs.Names.{Path, root, sub, path_on, path_in, Units, units_eq}
 use Rattle.turk_base.specs.declared.Record.{Record}
 use Rattle.turk_base.specs.declared.Record.TheVariants as kept
-use Rattle.turk_base.specs.Asks.{posts, token}
+use Rattle.turk_base.specs.Asks.{posts}
 use Rattle.turk_base.specs.Trace.{token_of}
 use Rattle.run_laws.proofs.Props.{pick_yes}
 use Rattle.meaning_laws.proofs.Tied.{token_tied}

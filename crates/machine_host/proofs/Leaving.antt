@@ -1,5 +1,5 @@
 -- What holds where a scope was left.
-use Rattle.std.specs.Prelude.{List, Bool, true, false, Some, None, IsSome, length, slice_get, Result, Ok, Err, OnOk}
+use Rattle.std.specs.Prelude.{List, Bool, true, false, Some, IsSome, length, slice_get, Result, Ok, Err, OnOk}
 use Rattle.std.proofs.Common.{◌≡◌, ◌<◌, ◌+◌, ℕ, zero, suc, length-append, refl, sym, ap, subst, ◌∙◌, arith, [], ◌∷◌, ◌++◌}
 use Rattle.std.proofs.lemmas.Option.{slice_get_within}
 use Rattle.turk_base.specs.Names.{Name}
@@ -7,13 +7,13 @@ use Rattle.turk_base.specs.Errors.{built_in}
 use Rattle.turk_base.specs.Start.{start}
 use Rattle.turk_base.specs.State.{St, join, join_scope, act, act_join, any_gone, leave}
 use Rattle.turk_base.specs.Steps.{joined, steps_of}
-use Rattle.turk_base.specs.Values.{Val, Undefined}
+use Rattle.turk_base.specs.Values.{Val}
 use Rattle.value_cells.specs.Comes.{Comes, goes, stops, spends, other, then_goes, acted, comes}
 use Rattle.value_cells.specs.Does.{Stays}
 use Rattle.value_cells.specs.Seen.{Naming, Seen, Scope, Fits}
 use Rattle.eval_ops.specs.Looks.{IsTold}
 use Rattle.eval_ops.specs.Calls.{LeavesBack, LeavesKeep, Changes, join_from}
-use Rattle.run_host.specs.Moment.{Moment}
+use Rattle.run_host.specs.Moment.{alone, Moment}
 use Rattle.run_host.specs.declared.Exit.{Exit}
 use Rattle.run_host.specs.declared.Exit.TheVariants.{Stopped}
 use Rattle.ask_model.specs.declared.AskStop.TheVariants.{Memory}
@@ -26,7 +26,7 @@ use Rattle.eval_ops.specs.Run.{seen_of}
 use Rattle.machine_host.specs.declared.AskedRun.{AskedRun}
 use Rattle.machine_host.specs.Moments.{moment_at}
 use Rattle.machine_host.specs.Runs.{notes_of, moment_of}
-use Rattle.machine_host.specs.Sound.{KnowsBuiltIns, BacksKnow, IsGood, AreOpen}
+use Rattle.machine_host.specs.Sound.{BacksKnow, IsGood, AreOpen}
 use Rattle.machine_host.proofs.Turns.{naming}
 
 some_same : {A : Type 0} {x y : A} → Some x ≡ Some y → x ≡ y
@@ -111,7 +111,7 @@ cut_at s mid nu v false e = (sym (ap state_of e), sym (ap left_of e))
 pub cut_by : (s mid : Seen) (nu : Naming) (v : Val) → join_from false nu s ≡ goes v (mid.first nu) mid.left → (mid.first nu ≡ join_scope s.scope.path (s.first nu)) × (mid.left ≡ s.left)
 cut_by s mid nu v e = let gone = any_gone s.scope.path (s.first nu).gone in cut_at s mid nu v gone (sym (join_comes s nu gone refl) ∙ e)
 
-pub joined_with : (ended new : Moment) (mid : Seen) → Stays ended.heap mid → ((nu : Naming) → Fits nu mid.names → (mid.first nu ≡ join_scope ended.heap.scope.path (ended.heap.first nu)) × (mid.left ≡ ended.heap.left))
+pub joined_with : (ended new : Moment alone) (mid : Seen) → Stays ended.heap mid → ((nu : Naming) → Fits nu mid.names → (mid.first nu ≡ join_scope ended.heap.scope.path (ended.heap.first nu)) × (mid.left ≡ ended.heap.left))
     → LeavesKeep mid new.heap → new ≡ record ended { heap = new.heap } → LeftWith (joined_in ended) ended new
 joined_with ended new mid stays cut k is = record {
   keeps = record {
@@ -125,26 +125,27 @@ joined_with ended new mid stays cut k is = record {
 }
 
 -- where the first part of the state was changed after it
-pub left_then : {first : Naming → St} (h : Naming → St → St) (old mid new : Moment) → LeftWith first old mid → Changes h mid.heap new.heap → new ≡ record mid { heap = new.heap } → LeftWith (λ nu. h nu (first nu)) old new
+pub left_then : {first : Naming → St} (h : Naming → St → St) (old mid new : Moment alone) → LeftWith first old mid → Changes h mid.heap new.heap → new ≡ record mid { heap = new.heap } → LeftWith (λ nu. h nu (first nu)) old new
 left_then h old mid new k c is = record {
   keeps = record {
     around = k.keeps.around ∙ (λ i. sym c.scope i ∷ sym c.outer i);
     grows = λ i n e. ap (λ l. slice_get l i) c.names ∙ k.keeps.grows i n e;
     below = λ i n e l. k.keeps.below i n (ap (λ q. slice_get q i) (sym c.names) ∙ e) l;
     left = c.left ∙ k.keeps.left;
-    rest = is ∙ ap (λ (m : Moment). record m { heap = new.heap }) k.keeps.rest;
+    rest = is ∙ ap (λ (m : Moment alone). record m { heap = new.heap }) k.keeps.rest;
   };
   first_is = λ nu fits. c.first nu fits ∙ ap (h nu) (k.first_is nu (subst (Fits nu) c.names fits));
 }
 
-pub left_lost : {first : Naming → St} (old new : Moment) → LeftWith first old new → Loses (Stopped Memory) old new
+pub left_lost : {first : Naming → St} (old new : Moment alone) → LeftWith first old new → Loses (Stopped Memory) old new
 left_lost old new k = record {
   is = refl;
-  same = record { session = ap (λ (m : Moment). m.session) k.keeps.rest; trace = ap (λ (m : Moment). m.trace) k.keeps.rest; pairs = ap (λ (m : Moment). m.pairs) k.keeps.rest; grows = k.keeps.grows };
-  made = ap (λ (m : Moment). m.made) k.keeps.rest;
+  same = record { later = tt; session = ap (λ (m : Moment alone). m.session) k.keeps.rest; trace = ap (λ (m : Moment alone). m.trace) k.keeps.rest; pairs = ap (λ (m : Moment alone). m.pairs) k.keeps.rest; grows = k.keeps.grows };
+  made = ap (λ (m : Moment alone). m.made) k.keeps.rest;
+  stopped = ap (λ (m : Moment alone). m.stopped) k.keeps.rest;
 }
 
-pub kept_with : (old new : Moment) → LeavesKeep old.heap new.heap → new ≡ record old { heap = new.heap } → LeftWith (λ nu. leave (old.heap.scope.back nu) (old.heap.first nu)) old new
+pub kept_with : (old new : Moment alone) → LeavesKeep old.heap new.heap → new ≡ record old { heap = new.heap } → LeftWith (λ nu. leave (old.heap.scope.back nu) (old.heap.first nu)) old new
 kept_with old new k is = record {
   keeps = record {
     around = k.around;
@@ -160,4 +161,4 @@ kept_with old new k is = record {
 pub lost_same : {X : Type 0} (seen : X → Asked) (words : X → ℕ → ℕ) (old new : AskedRun X) (x : Exit) → x ≡ Stopped Memory → new.guarded ≡ old.guarded → new.asker ≡ old.asker → new.notes ≡ old.notes → Loses x (moment_of seen words old) (moment_of seen words new)
 lost_same seen words old new x is guarded asker notes =
     let e : moment_of seen words new ≡ moment_of seen words old = λ i. moment_at (seen_of (guarded i).machine) (seen (asker i)) (words (asker i)) (notes_of (notes i)) in
-    subst (λ m. Loses x (moment_of seen words old) m) (sym e) (record { is = is; same = same_refl; made = refl })
+    subst (λ m. Loses x (moment_of seen words old) m) (sym e) (record { is = is; same = same_refl; made = refl; stopped = refl })

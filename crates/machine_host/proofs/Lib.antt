@@ -9,9 +9,11 @@ pub mod Counted
 pub mod Ending
 pub mod Fitted
 pub mod Fresh
+pub mod Goings
 pub mod Halting
 pub mod Indexes
 pub mod Opening
 pub mod Leaving
+pub mod Lifted
 pub mod Scoped
 pub mod Turns

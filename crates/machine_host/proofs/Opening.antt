@@ -2,12 +2,12 @@
 use Rattle.std.specs.Prelude.{Bool, true, false, List, Option, Some, None, Result, Ok, Err, OnOk, OnErr, IfErr, IsSome, length, slice_get}
 use Rattle.std.proofs.Common.{◌≡◌, IsErrAnd, ◌<◌, ◌+◌, ℕ, zero, suc, length-append, refl, sym, ap, subst, ◌∙◌, arith, [], ◌∷◌, ◌++◌, append-nil, ◌⊎◌, inl, inr}
 use Rattle.std.proofs.lemmas.Option.{slice_get_within}
-use Rattle.turk_base.specs.Names.{Path, Name, sub, path_in, In}
+use Rattle.turk_base.specs.Names.{Path, sub, path_in, In}
 use Rattle.turk_base.specs.declared.Record.{Record}
 use Rattle.turk_base.specs.Values as model
 use Rattle.turk_base.specs.Values.{Outcome}
 use Rattle.turk_base.specs.Errors.{built_in}
-use Rattle.turk_base.specs.Asks.{Rec, rec, find}
+use Rattle.turk_base.specs.Asks.{Rec, find}
 use Rattle.turk_base.specs.Prog.{Prog, Fork}
 use Rattle.turk_base.specs.State.{St, enter, next_call}
 use Rattle.turk_base.specs.Trace as told
@@ -26,7 +26,7 @@ use Rattle.machine_host.specs.declared.Notes.{Notes as Kept}
 use Rattle.machine_host.specs.Moments.{Notes, moment_at}
 use Rattle.machine_host.specs.Runs.{heap_of, notes_of, moment_of}
 use Rattle.ask_model.proofs.Finds.{at_some}
-use Rattle.value_cells.specs.Seen.{Naming, Seen, Fits, Scope}
+use Rattle.value_cells.specs.Seen.{Naming, Seen, Fits}
 use Rattle.eval_ops.specs.Looks.{IsTold}
 use Rattle.eval_ops.specs.Calls.{Enters}
 use Rattle.run_host.specs.declared.Exit.{Exit}
@@ -34,12 +34,12 @@ use Rattle.run_host.specs.declared.Exit.TheVariants as exit
 use Rattle.run_host.specs.declared.Halt.{Halt}
 use Rattle.run_host.specs.declared.Halt.TheVariants as halt
 use Rattle.run_host.specs.declared.Refusal.TheVariants as refusal
-use Rattle.run_host.specs.Moment.{Moment, rest_of, Suits, Clear, place, Same, Within}
+use Rattle.run_host.specs.Moment.{alone, Moment, rest_of, Suits, Clear, place, Same, Within}
 use Rattle.run_host.specs.Told as shown
 use Rattle.run_host.specs.Told.{told_exit, exit_needs}
 use Rattle.run_host.specs.Ends.{Like, halts, fails}
 use Rattle.run_host.specs.Did.{Runs}
-use Rattle.run_host.specs.Scopes.{KnowsItsCells, OpensFork}
+use Rattle.run_host.specs.Scopes.{OpensFork}
 use Rattle.run_host.proofs.Moments.{same_refl, within_refl}
 use Rattle.machine_host.specs.Asking.{Indexed, Loses, Tells}
 use Rattle.machine_host.specs.Sound.{KnowsBuiltIns, BacksKnow, IsGood, AreOpen}
@@ -84,21 +84,21 @@ open_entered es n s t p branch a e is =
 -- ---- programs that end the run
 
 module _ (f : Naming → Prog) where
-  pub program_halts : (m n : Moment) (h : Halt) (out : Out) → shown.IsOut h out → Same m n → Within m n → n.made ≡ m.made → n.words ≡ m.words
+  pub program_halts : (m n : Moment alone) (h : Halt) (out : Out) → shown.IsOut h out → Same m n → Within m n → n.made ≡ m.made → n.words ≡ m.words → n.stopped ≡ m.stopped
       → ((nu : Naming) → Fits nu n.heap.names → (E : World) (bound : ℕ) → Suits E n → Clear nu m → (at : St) × (left : ℕ) × Like at (n.heap.first nu) × (left ≡ n.heap.left) × ((k : Outcome → St → Rest → Res) → run_at (place E bound m) (f nu) k (m.heap.first nu) (rest_of m) ≡ res out at (record (rest_of n) { left = left })))
       → Runs f (λ nu. shown.Halts h) m n
-  program_halts m n h out is same within made drawn d = record {
+  program_halts m n h out is same within made drawn stopped d = record {
     same = same;
     within = λ nu z. within;
     added = [];
     made = made ∙ sym (append-nil m.made);
     dealt = tt;
     moved = λ nu z. moves_same drawn;
-    shown = λ nu. tt;
+    shown = λ nu. stopped;
     ran = λ nu fits E s bound l c. let q = d nu fits E bound s c in halts (record { out = out; is = is; at = q.0; left = q.1; like = q.2; fuel = λ z. q.3; stops = record { holds = q.4 } });
   }
 
-  pub program_lost : (m n : Moment) (y : Exit) → Loses y m n → Runs f (λ nu. told_exit nu y) m n
+  pub program_lost : (m n : Moment alone) (y : Exit) → Loses y m n → Runs f (λ nu. told_exit nu y) m n
   program_lost m n y l = subst (λ y. Runs f (λ nu. told_exit nu y) m n) (sym l.is) (record {
     same = l.same;
     within = λ nu z. absurd z;
@@ -106,15 +106,15 @@ module _ (f : Naming → Prog) where
     made = l.made ∙ sym (append-nil m.made);
     dealt = tt;
     moved = λ nu z. absurd z;
-    shown = λ nu. tt;
+    shown = λ nu. inl l.stopped;
     ran = λ nu fits E s bound lo c. fails (record { holds = λ k. front _ refl });
   })
 
 -- ---- forks
 
-pub fork_barred : (g : Naming → Prog) (m : Moment) → m.heap.scope.body ≡ true → Runs (λ nu. Fork (g nu)) (λ nu. shown.Halts (halt.Refused refusal.ForkInOnce)) m m
+pub fork_barred : (g : Naming → Prog) (m : Moment alone) → m.heap.scope.body ≡ true → Runs (λ nu. Fork (g nu)) (λ nu. shown.Halts (halt.Refused refusal.ForkInOnce)) m m
 unfolding run
-fork_barred g m e = program_halts (λ nu. Fork (g nu)) m m (halt.Refused refusal.ForkInOnce) (ended (bar model.ForkInOnce)) refl same_refl within_refl refl refl
+fork_barred g m e = program_halts (λ nu. Fork (g nu)) m m (halt.Refused refusal.ForkInOnce) (ended (bar model.ForkInOnce)) refl same_refl within_refl refl refl refl
     (λ nu fits E bound s c. (
       m.heap.first nu,
       m.heap.left,
@@ -126,8 +126,8 @@ fork_barred g m e = program_halts (λ nu. Fork (g nu)) m m (halt.Refused refusal
           (sub (m.heap.first nu).calls m.heap.scope.path))) e,
     ))
 
-module _ (s : Asked) (m n : Moment) (trace : m.trace ≡ records_of s.trace) (made : m.made ≡ records_of s.made) (p : List ℕ) (x : Indexed p m n) (here : m.heap.scope.body ≡ false) where
-  abbrev counted_fork : Moment
+module _ (s : Asked) (m n : Moment alone) (trace : m.trace ≡ records_of s.trace) (made : m.made ≡ records_of s.made) (p : List ℕ) (x : Indexed p m n) (here : m.heap.scope.body ≡ false) where
+  abbrev counted_fork : Moment alone
   counted_fork = record m { heap = n.heap; forks = suc m.forks }
 
   -- a record stands in the way of the fork
@@ -135,8 +135,9 @@ module _ (s : Asked) (m n : Moment) (trace : m.trace ≡ records_of s.trace) (ma
   unfolding run
   fork_diverges g r at y t = subst (λ y. Runs (λ nu. Fork (g nu)) (λ nu. told_exit nu y) m counted_fork) (sym t.1)
       (program_halts (λ nu. Fork (g nu)) m counted_fork (halt.Diverges t.0) (halted (diverged (diverges (path_in p) (found_kept r) called_fork))) (diverges (path_in p) (found_kept r) called_fork, t.2, refl)
-      (record { session = refl; trace = refl; pairs = refl; grows = λ i name e. ap (λ l. slice_get l i) x.names ∙ e })
+      (record { later = tt; session = refl; trace = refl; pairs = refl; grows = λ i name e. ap (λ l. slice_get l i) x.names ∙ e })
       (record { scope = x.scope; outer = x.outer; below = λ i name e l. let h = slice_get_within n.heap.names i name e in absurd (let q = ap length x.names in omega (arith, h, q, l)); falls = let h = x.left in omega (arith, h) })
+      refl
       refl
       refl
       (λ nu fits E bound su c.
@@ -154,16 +155,16 @@ module _ (s : Asked) (m n : Moment) (trace : m.trace ≡ records_of s.trace) (ma
       )))
 
   fork_lost : (g : Naming → Prog) (y : Exit) → y ≡ exit.Stopped stop.Memory → Runs (λ nu. Fork (g nu)) (λ nu. told_exit nu y) m counted_fork
-  fork_lost g y e = program_lost (λ nu. Fork (g nu)) m counted_fork y (record { is = e; same = record { session = refl; trace = refl; pairs = refl; grows = λ i name e. ap (λ l. slice_get l i) x.names ∙ e }; made = refl })
+  fork_lost g y e = program_lost (λ nu. Fork (g nu)) m counted_fork y (record { is = e; same = record { later = tt; session = refl; trace = refl; pairs = refl; grows = λ i name e. ap (λ l. slice_get l i) x.names ∙ e }; made = refl; stopped = refl })
 
-  pub fork_out : (l : Moment) → l ≡ counted_fork → (g : Naming → Prog) (r : Record) → told.at (known_to s) p ≡ Some r → (y : Exit) → (y ≡ exit.Stopped stop.Memory) ⊎ Tells y (diverges (path_in p) (found_kept r) called_fork) → Runs (λ nu. Fork (g nu)) (λ nu. told_exit nu y) m l
+  pub fork_out : (l : Moment alone) → l ≡ counted_fork → (g : Naming → Prog) (r : Record) → told.at (known_to s) p ≡ Some r → (y : Exit) → (y ≡ exit.Stopped stop.Memory) ⊎ Tells y (diverges (path_in p) (found_kept r) called_fork) → Runs (λ nu. Fork (g nu)) (λ nu. told_exit nu y) m l
   fork_out l e g r at y t = subst (λ l. Runs (λ nu. Fork (g nu)) (λ nu. told_exit nu y) m l) (sym e) (by t)
     where
       by : (y ≡ exit.Stopped stop.Memory) ⊎ Tells y (diverges (path_in p) (found_kept r) called_fork) → Runs (λ nu. Fork (g nu)) (λ nu. told_exit nu y) m (record m { heap = n.heap; forks = suc m.forks })
       by (inl lost) = fork_lost g y lost
       by (inr d) = fork_diverges g r at y d
 
-  pub fork_lost_at : (l : Moment) → l ≡ counted_fork → (g : Naming → Prog) (y : Exit) → y ≡ exit.Stopped stop.Memory → Runs (λ nu. Fork (g nu)) (λ nu. told_exit nu y) m l
+  pub fork_lost_at : (l : Moment alone) → l ≡ counted_fork → (g : Naming → Prog) (y : Exit) → y ≡ exit.Stopped stop.Memory → Runs (λ nu. Fork (g nu)) (λ nu. told_exit nu y) m l
   fork_lost_at l e g y lost = subst (λ l. Runs (λ nu. Fork (g nu)) (λ nu. told_exit nu y) m l) (sym e) (fork_lost g y lost)
 
   -- the branch was opened
@@ -174,18 +175,20 @@ module _ (s : Asked) (m n : Moment) (trace : m.trace ≡ records_of s.trace) (ma
       front_none None e = e
       front_none (Some r) e = let y = sym (at_some s.trace s.made p r e) ∙ none in let z : ⊥ = cc in absurd z
 
-  pub fork_opened : (l : Moment) → IsTold m.heap → told.at (known_to s) p ≡ None → Enters (path_in p) true n.heap l.heap → l ≡ record counted_fork { heap = l.heap } → OpensFork m l
+  pub fork_opened : (l : Moment alone) → IsTold m.heap → told.at (known_to s) p ≡ None → Enters (path_in p) true n.heap l.heap → l ≡ record counted_fork { heap = l.heap } → OpensFork m l
   fork_opened l known none e is = record {
     opens = record {
+      later = tt;
       cells = record { own = known.own; there = known.there; only = known.only };
       names = e.names ∙ x.names;
       left = e.left ∙ x.left;
-      session = ap (λ (q : Moment). q.session) is;
-      trace = ap (λ (q : Moment). q.trace) is;
-      pairs = ap (λ (q : Moment). q.pairs) is;
-      made = ap (λ (q : Moment). q.made) is;
-      words = ap (λ (q : Moment). q.words) is;
-      waits = ap (λ (q : Moment). q.waits) is;
+      session = ap (λ (q : Moment alone). q.session) is;
+      trace = ap (λ (q : Moment alone). q.trace) is;
+      pairs = ap (λ (q : Moment alone). q.pairs) is;
+      made = ap (λ (q : Moment alone). q.made) is;
+      words = ap (λ (q : Moment alone). q.words) is;
+      waits = ap (λ (q : Moment alone). q.waits) is;
+      stopped = ap (λ (q : Moment alone). q.stopped) is;
       outer = e.outer ∙ (λ i. x.scope i ∷ x.outer i);
       first = λ nu fits. e.first nu ∙ ap enter (x.first nu (subst (Fits nu) (sym x.names) fits));
       back = λ nu fits. e.back nu ∙ x.first nu (subst (Fits nu) (sym x.names) fits);
@@ -195,7 +198,7 @@ module _ (s : Asked) (m n : Moment) (trace : m.trace ≡ records_of s.trace) (ma
     here = here;
     branch = e.branch_is ∙ sym e.path;
     body = e.body;
-    forks = ap (λ (q : Moment). q.forks) is;
+    forks = ap (λ (q : Moment alone). q.forks) is;
   }
 
 -- ---- a fork as its function tells of it
@@ -212,16 +215,16 @@ module _ {X : Type 0} (seen : X → Asked) (words : X → ℕ → ℕ) (old mid 
   abbrev fork_notes : Notes
   fork_notes = record (notes_of mid.notes) { forks = forks }
 
-  abbrev fork_now : Moment
+  abbrev fork_now : Moment alone
   fork_now = moment_at (heap_of mid) (seen known) (words known) fork_notes
 
-  abbrev fork_counted : Moment
+  abbrev fork_counted : Moment alone
   fork_counted = record (moment_of seen words old) { heap = heap_of mid; forks = suc old.notes.forks }
 
   fork_is : fork_now ≡ fork_counted
   fork_is =
       let k : forks ≡ suc old.notes.forks = (let a = ap (λ (n : Kept). n.forks) notes in omega (arith, a, more)) in
-      (λ i. moment_at (heap_of mid) (asked i) (λ k. drawn k i) fork_notes) ∙ ap (λ (q : Moment). record q { forks = forks }) x.rest ∙ ap (λ j. record (moment_of seen words old) { heap = heap_of mid; forks = j }) k
+      (λ i. moment_at (heap_of mid) (asked i) (λ k. drawn k i) fork_notes) ∙ ap (λ (q : Moment alone). record q { forks = forks }) x.rest ∙ ap (λ j. record (moment_of seen words old) { heap = heap_of mid; forks = j }) k
 
   pub fork_found : (r : Record) → Some r ≡ record_in (known_to (seen known)) (seen known).asked → (y : Exit) → (y ≡ exit.Stopped stop.Memory) ⊎ Tells y (diverges (path_in p) (found_kept r) called_fork) → (g : Naming → Prog) → Runs (λ nu. Fork (g nu)) (λ nu. told_exit nu y) (moment_of seen words old) fork_now
   fork_found r at y t g = fork_out (seen mid.asker) (moment_of seen words old) (moment_of seen words mid) (λ i. records_of (seen (sym asker i)).trace) (λ i. records_of (seen (sym asker i)).made) p x here fork_now fork_is g r
@@ -229,7 +232,7 @@ module _ {X : Type 0} (seen : X → Asked) (words : X → ℕ → ℕ) (old mid 
 
   module _ (new : AskedRun X) (was : new.asker ≡ known) (kept : notes_of new.notes ≡ fork_notes) (known_told : IsTold (heap_of old)) (none : told.at (known_to (seen mid.asker)) p ≡ None) where
     new_is : moment_of seen words new ≡ record fork_counted { heap = heap_of new }
-    new_is = (λ i. moment_at (heap_of new) (seen (was i)) (words (was i)) (kept i)) ∙ ap (λ (q : Moment). record q { heap = heap_of new }) fork_is
+    new_is = (λ i. moment_at (heap_of new) (seen (was i)) (words (was i)) (kept i)) ∙ ap (λ (q : Moment alone). record q { heap = heap_of new }) fork_is
 
     pub fork_entered : (r : Result (Unit {0}) Exit) → OnOk r (Enters (path_in p) true (heap_of mid) (heap_of new)) → OnErr r (heap_of new ≡ heap_of mid) → IfErr r (λ y. y ≡ exit.Stopped stop.Memory)
         → OnOk r (OpensFork (moment_of seen words old) (moment_of seen words new)) × IfErr r (λ y. (g : Naming → Prog) → Runs (λ nu. Fork (g nu)) (λ nu. told_exit nu y) (moment_of seen words old) (moment_of seen words new)) × IfErr r (λ y. exit_needs y ≡ 0)
@@ -246,6 +249,6 @@ pub err_then : {A P Q : Type 0} (r : Result A Exit) → (P → Q) → OnErr r P 
 err_then (Ok a) f h = tt
 err_then (Err y) f h = f h
 
-pub fork_exit : {A : Type 0} (r : Result A Exit) (e : Exit) (m n : Moment) → IsErrAnd r (λ y. y ≡ e) → Loses e m n → IfErr r (λ y. (g : Naming → Prog) → Runs (λ nu. Fork (g nu)) (λ nu. told_exit nu y) m n)
+pub fork_exit : {A : Type 0} (r : Result A Exit) (e : Exit) (m n : Moment alone) → IsErrAnd r (λ y. y ≡ e) → Loses e m n → IfErr r (λ y. (g : Naming → Prog) → Runs (λ nu. Fork (g nu)) (λ nu. told_exit nu y) m n)
 fork_exit (Ok a) e m n h l = absurd h
-fork_exit (Err y) e m n h l = λ g. program_lost (λ nu. Fork (g nu)) m n y (record { is = h ∙ l.is; same = l.same; made = l.made })
+fork_exit (Err y) e m n h l = λ g. program_lost (λ nu. Fork (g nu)) m n y (record { is = h ∙ l.is; same = l.same; made = l.made; stopped = l.stopped })

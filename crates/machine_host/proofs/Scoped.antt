@@ -16,8 +16,8 @@ use Rattle.ask_model.specs.declared.AskStop.{AskStop}
 use Rattle.value_cells.specs.Seen.{Naming, Seen, Scope, Fits, Grows}
 use Rattle.eval_ops.specs.Calls.{LeavesBack}
 use Rattle.eval_ops.specs.Looks.{IsTold}
-use Rattle.run_host.specs.Moment.{Moment, cells, rest_of, draws_in, AllDealt, Moves, Suits, Clear, place, Same, Within}
-use Rattle.run_host.specs.Told.{Told, Fails, GoesOn, next_of, IsShown}
+use Rattle.run_host.specs.Moment.{alone, Moment, cells, rest_of, draws_in, AllDealt, Moves, Suits, Clear, place, Same, Within}
+use Rattle.run_host.specs.Told.{Told, Says, Halts, Fails, GoesOn, next_of, IsShown}
 use Rattle.run_host.specs.Ends.{Comes, fails}
 use Rattle.run_host.specs.Did.{Runs}
 use Rattle.run_host.specs.Scopes.{Local, called, Opens, OpensOnce}
@@ -27,32 +27,40 @@ use Rattle.machine_host.proofs.Turns.{naming}
 use native.Mathlib.Nat.{le_refl}
 
 -- A scope went on from one moment to another, and made these records.
-pub record Went (old new : Moment) (added : List Rec) : Type 0 where
+pub record Went (old new : Moment alone) (added : List Rec) : Type 0 where
   pub same : Same old new
   pub within : Within old new
   pub made : new.made ≡ old.made ++ added
   pub dealt : AllDealt (words old.words) 0 added
   pub moved : Moves old new added
+  pub stopped : new.stopped ≡ old.stopped
 
-pub went_by : {g : Naming → Prog} {told : Naming → Told} {old new : Moment} (r : Runs g told old new) → ((nu : Naming) → GoesOn (told nu)) → Went old new r.added
-went_by r on = record { same = r.same; within = r.within nowhere (on nowhere); made = r.made; dealt = r.dealt; moved = r.moved nowhere (on nowhere) }
+-- where it goes on, no refusal is new
+pub none_new : (t : Told) (a b : Option AskStop) → GoesOn t → IsShown t a b → b ≡ a
+none_new (Says v) a b z s = s
+none_new (Halts h) a b z s = s
+none_new (Fails why) a b z s = absurd z
+
+pub went_by : {g : Naming → Prog} {told : Naming → Told} {old new : Moment alone} (r : Runs g told old new) → ((nu : Naming) → GoesOn (told nu)) → Went old new r.added
+went_by {g} {told} {old} {new} r on = record { same = r.same; within = r.within nowhere (on nowhere); made = r.made; dealt = r.dealt; moved = r.moved nowhere (on nowhere); stopped = none_new (told nowhere) old.stopped new.stopped (on nowhere) (r.shown nowhere) }
 
 -- and went on, with these records more
-pub went_on : {old mid new : Moment} {l : List Rec} → Went old mid l → (m : List Rec) → Same mid new → Within mid new → new.made ≡ mid.made ++ m → AllDealt (words mid.words) 0 m → Moves mid new m → Went old new (l ++ m)
-went_on {old} {mid} {new} {l} u m same within made dealt moved = record {
+pub went_on : {old mid new : Moment alone} {l : List Rec} → Went old mid l → (m : List Rec) → Same mid new → Within mid new → new.made ≡ mid.made ++ m → AllDealt (words mid.words) 0 m → Moves mid new m → new.stopped ≡ mid.stopped → Went old new (l ++ m)
+went_on {old} {mid} {new} {l} u m same within made dealt moved stopped = record {
   same = same_trans u.same same;
   within = within_trans same u.within within;
   made = made ∙ ap (λ a. a ++ m) u.made ∙ append_assoc old.made l m;
   dealt = dealt_twice l m u.dealt u.moved dealt;
   moved = moves_twice l m u.moved moved;
+  stopped = stopped ∙ u.stopped;
 }
 
 -- where no record was made
-pub suits_same : {E : World} {m n : Moment} → Same m n → n.made ≡ m.made → Suits E n → Suits E m
+pub suits_same : {E : World} {m n : Moment alone} → Same m n → n.made ≡ m.made → Suits E n → Suits E m
 suits_same {E} s made su = record { session = su.session ∙ s.session; pairs = su.pairs ∙ s.pairs; dealt = subst (λ l. AllDealt E.dice 0 l) made su.dealt }
 
 -- where memory ran out or a call was refused
-pub run_fails : {f : Naming → Prog} {old new : Moment} (why : AskStop) (l : List Rec) → Same old new → new.made ≡ old.made ++ l → AllDealt (words old.words) 0 l → IsShown (Fails why) new.stopped
+pub run_fails : {f : Naming → Prog} {old new : Moment alone} (why : AskStop) (l : List Rec) → Same old new → new.made ≡ old.made ++ l → AllDealt (words old.words) 0 l → IsShown (Fails why) old.stopped new.stopped
     → ((nu : Naming) → Fits nu new.heap.names → (E : World) → Suits E new → (bound : ℕ) → old.heap.left < bound → Clear nu old → Cuts (place E bound old) (f nu) (old.heap.first nu) (rest_of old) l (next_of E (draws_in new.made) new.unmade why))
     → Runs f (λ nu. Fails why) old new
 run_fails why l same made dealt shown cuts = record {
@@ -83,9 +91,9 @@ known_called false p σ = refl
 
 -- ---- a scope that was opened
 
-module _ {b : Bool} {before opened : Moment} (o : Opens b before opened) where
+module _ {b : Bool} {before opened : Moment alone} (o : Opens b before opened) where
   pub same_opened : Same before opened
-  same_opened = record { session = o.session; trace = o.trace; pairs = o.pairs; grows = λ i n e. ap (λ l. slice_get l i) o.names ∙ e }
+  same_opened = record { later = tt; session = o.session; trace = o.trace; pairs = o.pairs; grows = λ i n e. ap (λ l. slice_get l i) o.names ∙ e }
 
   pub unfound_is : (nu : Naming) → find (sub (before.heap.first nu).calls before.heap.scope.path) before.trace ≡ None
   unfound_is nu = ap (λ p. find p before.trace) (sym (o.path nu)) ∙ o.unfound
@@ -94,17 +102,20 @@ module _ {b : Bool} {before opened : Moment} (o : Opens b before opened) where
   clear_opened nu c q i (j, l, u) =
       c q (subst (λ m. In Rec q m) o.made i) ((before.heap.first nu).calls, le_refl (before.heap.first nu).calls, up (subst (λ p. Under (sub j p) (path_of q)) (o.path nu) u))
 
-  module _ {now : Moment} {added : List Rec} (u : Went opened now added) where
+  module _ {now : Moment alone} {added : List Rec} (u : Went opened now added) where
     pub same_now : Same before now
     same_now = same_trans same_opened u.same
 
     pub made_now : now.made ≡ before.made ++ added
     made_now = u.made ∙ ap (λ l. l ++ added) o.made
 
+    pub stopped_now : now.stopped ≡ before.stopped
+    stopped_now = u.stopped ∙ o.stopped
+
     pub dealt_now : AllDealt (words before.words) 0 added
     dealt_now = subst (λ w. AllDealt (words w) 0 added) o.words u.dealt
 
-    pub moves_now : (new : Moment) → new.words ≡ now.words → Moves before new added
+    pub moves_now : (new : Moment alone) → new.words ≡ now.words → Moves before new added
     moves_now new drawn = record { on = λ k. ap (λ (w : ℕ → ℕ). w k) drawn ∙ u.moved.on k ∙ ap (λ (w : ℕ → ℕ). w (draws_in added + k)) o.words }
 
     pub fits_now : {nu : Naming} → Fits nu now.heap.names → Fits nu before.heap.names
@@ -128,9 +139,9 @@ module _ {b : Bool} {before opened : Moment} (o : Opens b before opened) where
 
     -- ---- where what it did stays
 
-    module _ {new : Moment} (k : LeftKeep now new) where
+    module _ {new : Moment alone} (k : LeftKeep now new) where
       same_kept : Same now new
-      same_kept = record { session = ap (λ (m : Moment). m.session) k.rest; trace = ap (λ (m : Moment). m.trace) k.rest; pairs = ap (λ (m : Moment). m.pairs) k.rest; grows = k.grows }
+      same_kept = record { later = tt; session = ap (λ (m : Moment alone). m.session) k.rest; trace = ap (λ (m : Moment alone). m.trace) k.rest; pairs = ap (λ (m : Moment alone). m.pairs) k.rest; grows = k.grows }
 
       within_kept : Within before new
       within_kept = record {
@@ -151,7 +162,7 @@ module _ {b : Bool} {before opened : Moment} (o : Opens b before opened) where
       rest_kept : rest_of new ≡ rest_of now
       rest_kept = ap rest_of k.rest ∙ (λ i. record (rest_of now) { left = k.left i })
 
-      pub kept_runs : (f : Naming → Prog) (said : Naming → Told) → ((nu : Naming) → IsShown (said nu) new.stopped)
+      pub kept_runs : (f : Naming → Prog) (said : Naming → Told) → ((nu : Naming) → new.stopped ≡ before.stopped → IsShown (said nu) before.stopped new.stopped)
           → ((nu : Naming) → Fits nu now.heap.names → Fits nu new.heap.names → (E : World) → Suits E now → (bound : ℕ) → before.heap.left < bound → Clear nu before →
           Comes (place E bound before) (f nu) (before.heap.first nu) (rest_of before) added (next_of E (draws_in new.made) new.unmade) (said nu) (new.heap.first nu) (rest_of now))
           → Runs f said before new
@@ -159,12 +170,12 @@ module _ {b : Bool} {before opened : Moment} (o : Opens b before opened) where
         same = same_trans same_now same_kept;
         within = λ nu z. within_kept;
         added = added;
-        made = ap (λ (m : Moment). m.made) k.rest ∙ made_now;
+        made = ap (λ (m : Moment alone). m.made) k.rest ∙ made_now;
         dealt = dealt_now;
-        moved = λ nu z. moves_now new (ap (λ (m : Moment). m.words) k.rest);
-        shown = shown;
+        moved = λ nu z. moves_now new (ap (λ (m : Moment alone). m.words) k.rest);
+        shown = λ nu. shown nu (ap (λ (m : Moment alone). m.stopped) k.rest ∙ stopped_now);
         ran = λ nu fits E su bound l c. subst (λ w. Comes (place E bound before) (f nu) (before.heap.first nu) (rest_of before) added (next_of E (draws_in new.made) new.unmade) (said nu) (new.heap.first nu) w) (sym rest_kept)
-            (ran nu (fits_before k.grows fits) fits E (suits_same same_kept (ap (λ (m : Moment). m.made) k.rest) su) bound l c);
+            (ran nu (fits_before k.grows fits) fits E (suits_same same_kept (ap (λ (m : Moment alone). m.made) k.rest) su) bound l c);
       }
 
     -- ---- where it is taken back: the names of its own cells are left to it
@@ -217,11 +228,11 @@ module _ {b : Bool} {before opened : Moment} (o : Opens b before opened) where
           let less = h.1 in
           omega (arith, same, less, l)
 
-      abbrev pub at_back : Moment
+      abbrev pub at_back : Moment alone
       at_back = record before { heap = back }
 
       pub same_back : Same before at_back
-      same_back = record { session = refl; trace = refl; pairs = refl; grows = names_back }
+      same_back = record { later = tt; session = refl; trace = refl; pairs = refl; grows = names_back }
 
       pub within_back : Within before at_back
       within_back = record {
@@ -239,7 +250,7 @@ module _ {b : Bool} {before opened : Moment} (o : Opens b before opened) where
 
 -- ---- a once body
 
-module _ {before opened : Moment} (o : OpensOnce before opened) where
+module _ {before opened : Moment alone} (o : OpensOnce before opened) where
   place_is : (E : World) (bound : ℕ) (nu : Naming) → place E bound opened ≡ in_body (place E bound before) (before.heap.first nu)
   place_is E bound nu = λ i. record { world = E; trace = o.opens.trace i; bound = bound; scope = o.opens.path nu i; branch = o.branch i; body = o.body i }
 
@@ -247,7 +258,7 @@ module _ {before opened : Moment} (o : OpensOnce before opened) where
   rest_is = λ i. record { left = o.opens.left i; drawn = draws_in (o.opens.made i); forks = o.forks i; waits = o.opens.waits i }
 
   -- what the program of the body came to
-  pub body_came : {g : Naming → Prog} {told : Naming → Told} {ended : Moment} (r : Runs g told opened ended) (nu : Naming) → Fits nu ended.heap.names → (E : World) → Suits E ended → (bound : ℕ) → before.heap.left < bound → Clear nu before →
+  pub body_came : {g : Naming → Prog} {told : Naming → Told} {ended : Moment alone} (r : Runs g told opened ended) (nu : Naming) → Fits nu ended.heap.names → (E : World) → Suits E ended → (bound : ℕ) → before.heap.left < bound → Clear nu before →
       Comes (in_body (place E bound before) (before.heap.first nu)) (g nu) (enter (once_call before.heap.scope.branch (next_call (before.heap.first nu)))) (rest_of before) r.added (next_of E (draws_in ended.made) ended.unmade) (told nu) (ended.heap.first nu) (rest_of ended)
   body_came {g} {told} {ended} r nu fits E su bound l c =
       let next = next_of E (draws_in ended.made) ended.unmade in
@@ -258,7 +269,7 @@ module _ {before opened : Moment} (o : OpensOnce before opened) where
       (subst (λ x. Comes (place E bound opened) (g nu) (opened.heap.first nu) x r.added next (told nu) (ended.heap.first nu) (rest_of ended)) rest_is
       (r.ran nu fits E su bound low (clear_opened o.opens nu c))))
 
-  module _ {now : Moment} {added : List Rec} (u : Went opened now added) where
+  module _ {now : Moment alone} {added : List Rec} (u : Went opened now added) where
     pub branch_is : now.heap.scope.branch ≡ before.heap.scope.branch
     branch_is = ap (λ (s : Scope). s.branch) u.within.scope ∙ o.branch
 

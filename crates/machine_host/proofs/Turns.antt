@@ -1,16 +1,16 @@
 -- From what a call on a machine did to what the run does between two moments that differ in the heap alone.
 use Rattle.std.specs.Prelude.{List, Option, Some, None, slice_get, Result, Ok, Err}
-use Rattle.std.proofs.Common.{◌≡◌, ◌≤◌, ◌<◌, ◌+◌, ℕ, zero, suc, refl, sym, ap, subst, ◌∙◌, arith, [], ◌∷◌, ◌++◌, append-nil, length}
+use Rattle.std.proofs.Common.{inl, ◌≡◌, ◌≤◌, ℕ, refl, sym, ap, subst, ◌∙◌, arith, [], append-nil}
 use Rattle.turk_base.specs.Asks.{Rec, path_of}
-use Rattle.turk_base.specs.Names.{Name, root, cell, In}
+use Rattle.turk_base.specs.Names.{Name, root, cell}
 use Rattle.turk_base.specs.Values as model
 use Rattle.turk_base.specs.Values.{Outcome, Normal}
-use Rattle.turk_base.specs.Prog.{Prim, AnswerOf, Prog, ask}
+use Rattle.turk_base.specs.Prog.{Prim, Prog, ask}
 use Rattle.turk_base.specs.State.{St}
 use Rattle.turk_base.specs.Steps.{Small, steps_of}
-use Rattle.js_tree.specs.Run.{Res, ended, halted, bar, spent, res, run_steps, run}
+use Rattle.js_tree.specs.Run.{Res, ended, halted, bar, spent, run_steps, run}
 use Rattle.js_tree.specs.World.{World, Rest}
-use Rattle.run_laws.proofs.Sequel.{Place, run_at, Ends}
+use Rattle.run_laws.proofs.Sequel.{Place, run_at}
 use Rattle.run_laws.proofs.Cuts.{Next, Follows}
 use Rattle.run_laws.proofs.Fronts.{front}
 use Rattle.run_laws.proofs.Within.{After}
@@ -18,25 +18,22 @@ use Rattle.ask_model.specs.declared.AskStop.{AskStop}
 use Rattle.ask_model.specs.declared.AskStop.TheVariants as stop
 use Rattle.value_cells.specs.declared.OpStop.{OpStop}
 use Rattle.value_cells.specs.declared.OpStop.TheVariants as heap
-use Rattle.value_cells.specs.declared.Value.{Value}
-use Rattle.value_cells.specs.Seen.{Naming, Seen, Fits, Scope, val_in}
-use Rattle.value_cells.specs.Comes.{Comes, goes, stops, spends, other}
-use Rattle.value_cells.specs.Does as does
-use Rattle.value_cells.specs.Does.{Stays, Did, Kept, told, told_stop, comes_from, ends_from}
+use Rattle.value_cells.specs.Seen.{Naming, Seen, Fits, Scope}
+use Rattle.value_cells.specs.Comes.{Comes, goes, stops, spends}
+use Rattle.value_cells.specs.Does.{Stays, Kept, told, comes_from, ends_from}
 use Rattle.run_heap.specs.Works.{Performs}
 use Rattle.run_host.specs.declared.Halt.TheVariants as halt
 use Rattle.run_host.specs.declared.Refusal.{Refusal}
 use Rattle.run_host.specs.declared.Refusal.TheVariants as refusal
 use Rattle.run_host.specs.declared.Exit.{Exit}
-use Rattle.run_host.specs.Moment.{Moment, rest_of, draws_in, Moves, Suits, Clear, place, Same, Within}
-use Rattle.run_host.specs.Told.{Told, Says, Halts, Fails, GoesOn, next_of, told_exit, told_value, IsOut, refusal_in}
-use Rattle.run_host.specs.Ends.{Like, Comes as Outcomes, says, halts, fails}
+use Rattle.run_host.specs.Moment.{alone, Moment, rest_of, draws_in, Moves, Clear, place, Same, Within}
+use Rattle.run_host.specs.Told.{Told, Halts, Fails, next_of, told_exit, refusal_in}
+use Rattle.run_host.specs.Ends.{Comes as Outcomes, says, halts, fails}
 use Rattle.run_host.specs.Did.{Runs}
-use Rattle.run_host.specs.Steps.{Onward, Step, Leads, Leaves, Gives, Takes}
+use Rattle.run_host.specs.Steps.{Step, Leaves, Takes}
 use Rattle.run_host.proofs.Moments.{fits_before, same_trans, within_trans, place_after}
 use Rattle.machine_host.specs.Exits.{exit_at, answer_at}
 use Rattle.machine_host.proofs.Bridge.{told_by, IsKnown, steps_are, ends_are, Holds, steps_hold, ends_hold}
-use native.Mathlib.Nat.{le_trans}
 
 -- ---- a naming that fits
 
@@ -49,12 +46,12 @@ naming names = ((λ i. name_of (slice_get names i)), record { agrees = λ i n e.
 
 -- ---- the moment with another heap
 
-abbrev pub with_heap : Moment → Seen → Moment
+abbrev pub with_heap : Moment alone → Seen → Moment alone
 with_heap m t = record m { heap = t }
 
-module _ (m : Moment) (t : Seen) (stays : Stays m.heap t) where
+module _ (m : Moment alone) (t : Seen) (stays : Stays m.heap t) where
   pub same_heap : Same m (with_heap m t)
-  same_heap = record { session = refl; trace = refl; pairs = refl; grows = stays.grows }
+  same_heap = record { later = tt; session = refl; trace = refl; pairs = refl; grows = stays.grows }
 
   pub within_heap : t.left ≤ m.heap.left → Within m (with_heap m t)
   within_heap l = record { scope = stays.scope; outer = stays.outer; below = stays.below; falls = l }
@@ -64,7 +61,7 @@ module _ (m : Moment) (t : Seen) (stays : Stays m.heap t) where
       c r i (subst (λ (p : Scope). After p.path (m.heap.first nu).calls (path_of r)) stays.scope (subst (λ n. After t.scope.path n (path_of r)) e a))
 
 -- nothing was drawn
-pub moves_same : {m n : Moment} → n.words ≡ m.words → Moves m n []
+pub moves_same : {m n : Moment alone} → n.words ≡ m.words → Moves m n []
 moves_same {m} {n} e = record { on = λ k. ap (λ (w : ℕ → ℕ). w k) e ∙ ap m.words (omega arith) }
 
 -- ---- programs that begin with steps
@@ -89,12 +86,12 @@ asks_of p = record { runs = λ c go k σ w. refl }
 -- ---- what programs come to that ask nothing of the outside
 
 -- `next` says how the program goes on where its first part answers.
-pub record Came {B : Type 0} (f : Naming → Prog) (m : Moment) (come : Naming → Comes B) (next : Naming → Place → (Outcome → St → Rest → Res) → B → St → Rest → Res) : Type 0 where
+pub record Came {B : Type 0} (f : Naming → Prog) (m : Moment alone) (come : Naming → Comes B) (next : Naming → Place → (Outcome → St → Rest → Res) → B → St → Rest → Res) : Type 0 where
   pub is : (nu : Naming) (E : World) (bound : ℕ) (k : Outcome → St → Rest → Res) → IsKnown (come nu) →
       run_at (place E bound m) (f nu) k (m.heap.first nu) (rest_of m) ≡ told_by (rest_of m) (next nu (place E bound m) k) (come nu)
   pub holds : (nu : Naming) → Holds (m.heap.first nu) m.heap.left (come nu)
 
-pub steps_came : {A : Type 0} (f : Naming → Step A) (g : Naming → Small A) → ((nu : Naming) → Asks (f nu) (g nu)) → (m : Moment) (go : Naming → A → Prog) →
+pub steps_came : {A : Type 0} (f : Naming → Step A) (g : Naming → Small A) → ((nu : Naming) → Asks (f nu) (g nu)) → (m : Moment alone) (go : Naming → A → Prog) →
     Came (λ nu. f nu (go nu)) m (λ nu. comes_from (g nu) nu m.heap) (λ nu c k a τ x. run_at c (go nu a) k τ x)
 steps_came f g asks m go = record {
   is = λ nu E bound k h.
@@ -104,13 +101,13 @@ steps_came f g asks m go = record {
   holds = λ nu. steps_hold (g nu) m.heap.scope.path m.heap.scope.branch m.heap.scope.body (m.heap.first nu) m.heap.left;
 }
 
-pub program_came : (g : Naming → Prog) (m : Moment) → Came g m (λ nu. ends_from (g nu) nu m.heap) (λ nu c k o τ x. k o τ x)
+pub program_came : (g : Naming → Prog) (m : Moment alone) → Came g m (λ nu. ends_from (g nu) nu m.heap) (λ nu c k o τ x. k o τ x)
 program_came g m = record {
   is = λ nu E bound k h. ends_are (g nu) (place E bound m) k (m.heap.first nu) (rest_of m) h;
   holds = λ nu. ends_hold (g nu) m.heap.scope.path m.heap.scope.branch m.heap.scope.body (m.heap.first nu) m.heap.left;
 }
 
-module _ {B : Type 0} {f : Naming → Prog} {m : Moment} {come : Naming → Comes B} {next : Naming → Place → (Outcome → St → Rest → Res) → B → St → Rest → Res}
+module _ {B : Type 0} {f : Naming → Prog} {m : Moment alone} {come : Naming → Comes B} {next : Naming → Place → (Outcome → St → Rest → Res) → B → St → Rest → Res}
     (came : Came f m come next) (t : Seen) (stays : Stays m.heap t) where
   -- what it came to, where that is known
   is_told : (nu : Naming) (E : World) (bound : ℕ) (k : Outcome → St → Rest → Res) (c : Comes B) → come nu ≡ c → IsKnown c →
@@ -131,7 +128,7 @@ module _ {B : Type 0} {f : Naming → Prog} {m : Moment} {come : Naming → Come
     made = sym (append-nil m.made);
     dealt = tt;
     moved = λ nu z. record { on = λ k. ap m.words (omega arith) };
-    shown = λ nu. tt;
+    shown = λ nu. refl;
     ran = λ nu fits E s bound l c. halts (record {
       out = ended (bar y);
       is = ap (λ y. ended (bar y)) (sym is);
@@ -152,7 +149,7 @@ module _ {B : Type 0} {f : Naming → Prog} {m : Moment} {come : Naming → Come
     made = sym (append-nil m.made);
     dealt = tt;
     moved = λ nu z. record { on = λ k. ap m.words (omega arith) };
-    shown = λ nu. tt;
+    shown = λ nu. refl;
     ran = λ nu fits E s bound l c.
         let q = d nu fits in
         let h = holds_of nu (spends q.0 q.1) q.2 in
@@ -175,12 +172,12 @@ module _ {B : Type 0} {f : Naming → Prog} {m : Moment} {come : Naming → Come
     made = sym (append-nil m.made);
     dealt = tt;
     moved = λ nu z. record { on = λ k. ap m.words (omega arith) };
-    shown = λ nu. tt;
+    shown = λ nu. inl refl;
     ran = λ nu fits E s bound l c. fails (record { holds = λ k. front _ refl });
   }
 
   -- where it answered, what comes after goes on from there
-  pub answered_run : {g : Naming → Prog} {said : Naming → Told} {last : Moment} (a : Naming → B) → ((nu : Naming) → Fits nu t.names → come nu ≡ goes (a nu) (t.first nu) t.left)
+  pub answered_run : {g : Naming → Prog} {said : Naming → Told} {last : Moment alone} (a : Naming → B) → ((nu : Naming) → Fits nu t.names → come nu ≡ goes (a nu) (t.first nu) t.left)
       → ((nu : Naming) (c : Place) (k : Outcome → St → Rest → Res) → next nu c k (a nu) ≡ run_at c (g nu) k)
       → Runs g said (with_heap m t) last → Runs f said m last
   answered_run {g} {said} {last} a d on r = record {
@@ -209,7 +206,7 @@ module _ {B : Type 0} {f : Naming → Prog} {m : Moment} {come : Naming → Come
 abbrev pub KeepsGone : Seen → Seen → Type 0
 KeepsGone s t = (nu : Naming) → (t.first nu).gone ≡ (s.first nu).gone
 
-module _ {A B : Type 0} (f : Naming → Step A) (g : Naming → Small A) (asks : (nu : Naming) → Asks (f nu) (g nu)) (h : Naming → B → A) (m : Moment) (t : Seen) where
+module _ {A B : Type 0} (f : Naming → Step A) (g : Naming → Small A) (asks : (nu : Naming) → Asks (f nu) (g nu)) (h : Naming → B → A) (m : Moment alone) (t : Seen) where
   leaves : (x : Exit) → ((go : Naming → A → Prog) → Runs (λ nu. f nu (go nu)) (λ nu. told_exit nu x) m (with_heap m t)) → Leaves f x m (with_heap m t)
   leaves x r = record { ends = r }
 

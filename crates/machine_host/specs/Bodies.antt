@@ -20,7 +20,7 @@ use Rattle.run_host.specs.declared.Refusal.TheVariants.{NotData}
 use Rattle.run_host.specs.declared.Halt.TheVariants.{Refused, Waits, Spent, Diverges}
 use Rattle.run_host.specs.declared.Exit.{Exit}
 use Rattle.run_host.specs.declared.Exit.TheVariants.{Throw, Halted, Stopped}
-use Rattle.run_host.specs.Moment.{Moment, keeping, cells}
+use Rattle.run_host.specs.Moment.{alone, Moment, keeping, cells}
 use Rattle.run_host.specs.Told.{Told}
 use Rattle.run_host.specs.Did.{Runs}
 use Rattle.run_host.specs.Scopes.{Local, OpensOnce}
@@ -35,7 +35,7 @@ gift_at (Ok None) = Err (Halted (Refused NotData))
 gift_at (Err stop) = Err (exit_at stop)
 
 -- The data of this value was taken in the scope that runs, and nothing but the heap changed.
-pub record TakesData (v : Value) (x : Result Data Exit) (old new : Moment) : Type 0 where
+pub record TakesData (v : Value) (x : Result Data Exit) (old new : Moment alone) : Type 0 where
   pub answer : Result (Option Data) OpStop
   pub is : x ≡ gift_at answer
   pub did : Performs (λ nu. taking (val_in nu v)) (λ nu. told_taken (λ d. d) answer) old.heap new.heap
@@ -53,19 +53,19 @@ goes_on (Stopped why) = false
 
 -- This exit of a once body is passed on. Where the scope around goes on or can, the scope was left, and what it did stays, or
 -- memory ran out; else nothing changed.
-abbrev pub LeavesBy : Exit → Exit → Moment → Moment → Type 0
+abbrev pub LeavesBy : Exit → Exit → Moment alone → Moment alone → Type 0
 LeavesBy x y old new = MatchBool (goes_on x) (((y ≡ x) × LeftWith (λ nu. leave (old.heap.scope.back nu) (old.heap.first nu)) old new) ⊎ Loses y old new) ((y ≡ x) × (new ≡ old))
 
 -- the record of a once call was made
-abbrev pub recorded : Path → Data → Moment → Moment
+abbrev pub recorded : Path → Data → Moment alone → Moment alone
 recorded p d m = record m { made = m.made ++ rec p (Kept d) ∷ [] }
 
 -- The record of a once call was refused, and that is told; or memory ran out.
-abbrev pub RefusesOnce : Path → Data → Exit → Moment → Moment → Type 0
+abbrev pub RefusesOnce : Path → Data → Exit → Moment alone → Moment alone → Type 0
 RefusesOnce p d x old new = (why : AskStop) × Refuses (keeping p d) why x old new
 
 -- The scope was left, and all that it did is taken back but for the fuel; then the data was put.
-pub record PutsBack (d : Data) (x : Result Value Exit) (old new : Moment) : Type 0 where
+pub record PutsBack (d : Data) (x : Result Value Exit) (old new : Moment alone) : Type 0 where
   pub mid : Seen
   pub leaves : LeavesBack old.heap mid
   pub was : IsTold old.heap
@@ -77,18 +77,18 @@ pub record PutsBack (d : Data) (x : Result Value Exit) (old new : Moment) : Type
   pub rest : new ≡ record old { heap = new.heap }
 
 -- the answer is an exit, and memory ran out
-abbrev pub LosesValue : Result Value Exit → Moment → Moment → Type 0
+abbrev pub LosesValue : Result Value Exit → Moment alone → Moment alone → Type 0
 LosesValue x old new = (y : Exit) × (x ≡ Err y) × Loses y old new
 
 -- The data was put anew, or memory ran out.
-abbrev pub PutsAnew : Data → Result Value Exit → Moment → Moment → Type 0
+abbrev pub PutsAnew : Data → Result Value Exit → Moment alone → Moment alone → Type 0
 PutsAnew d x old new = PutsBack d x old new ⊎ LosesValue x old new
 
 -- The data of a once body was recorded and put anew, or its record was refused.
-abbrev pub KeepsData : Data → Result Value Exit → Moment → Moment → Type 0
+abbrev pub KeepsData : Data → Result Value Exit → Moment alone → Moment alone → Type 0
 KeepsData d x old new =
     PutsAnew d x (recorded old.heap.scope.path d old) new ⊎ ((y : Exit) × (x ≡ Err y) × RefusesOnce old.heap.scope.path d y old new)
 
 -- Of each once call whose body came to what was told, it did what the call does.
-abbrev pub EndsOnce : (Naming → Told) → Moment → (Naming → Told) → Moment → Type 0
-EndsOnce told old said new = (g : Naming → Prog) (before opened : Moment) → Local (cells before) g → OpensOnce before opened → Runs g told opened old → Runs (λ nu. Once (g nu)) said before new
+abbrev pub EndsOnce : (Naming → Told) → Moment alone → (Naming → Told) → Moment alone → Type 0
+EndsOnce told old said new = (g : Naming → Prog) (before opened : Moment alone) → Local (cells before) g → OpensOnce before opened → Runs g told opened old → Runs (λ nu. Once (g nu)) said before new

@@ -1,7 +1,9 @@
 pub mod Asking
 pub mod Bodies
+pub mod Chain
 pub mod Exits
 pub mod Guards
+pub mod Laws
 pub mod Leaving
 pub mod Moments
 pub mod Onces

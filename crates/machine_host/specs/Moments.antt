@@ -8,9 +8,8 @@ use Rattle.turk_base.specs.Told.{records_of}
 use Rattle.ask_model.specs.declared.AskStop.{AskStop}
 use Rattle.ask_model.specs.Asker.{Seen as Asked}
 use Rattle.value_cells.specs.Seen.{Seen}
-use Rattle.eval_ops.specs.Run.{Run, seen_of}
 use Rattle.run_host.specs.Moment as moment
-use Rattle.run_host.specs.Moment.{Moment}
+use Rattle.run_host.specs.Moment.{alone, Moment}
 use Rattle.machine_host.specs.declared.Wait.{Wait}
 use Rattle.machine_host.specs.declared.Wait.TheVariants.{Task, Crashed}
 use Rattle.machine_host.specs.declared.Question.{Question}
@@ -40,9 +39,10 @@ pub record Notes : Type 0 where
   pub stopped : Option AskStop
   pub unmade : Unmade
 
-abbrev pub moment_at : Seen → Asked → (ℕ → ℕ) → Notes → Moment
+abbrev pub moment_at : Seen → Asked → (ℕ → ℕ) → Notes → Moment alone
 moment_at heap asked words notes = record {
   heap = heap;
+  asker = tt;
   forks = notes.forks;
   waits = map wait_in notes.waits;
   session = notes.session;

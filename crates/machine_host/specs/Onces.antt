@@ -14,13 +14,13 @@ use Rattle.value_cells.specs.Does.{told}
 use Rattle.run_heap.specs.Works.{Performs}
 use Rattle.run_host.specs.declared.Exit.{Exit}
 use Rattle.run_host.specs.declared.Exit.TheVariants.{Stopped}
-use Rattle.run_host.specs.Moment.{Moment}
+use Rattle.run_host.specs.Moment.{alone, Moment}
 use Rattle.run_host.specs.Scopes.{called}
 use Rattle.machine_host.specs.Asking.{Tells}
 use Rattle.machine_host.specs.Exits.{answer_at}
 
 -- The once call with the path p took its index, the verdict rule was applied, and nothing else changed.
-pub record CountsOnce (p : List ℕ) (old new : Moment) : Type 0 where
+pub record CountsOnce (p : List ℕ) (old new : Moment alone) : Type 0 where
   pub names : new.heap.names ≡ old.heap.names
   pub scope : new.heap.scope ≡ old.heap.scope
   pub outer : new.heap.outer ≡ old.heap.outer

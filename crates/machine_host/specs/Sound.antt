@@ -1,7 +1,6 @@
 -- What holds of a run over a machine and an asker in each state that its calls leave.
 use Rattle.std.specs.Prelude.{◌≡◌, ◌<◌, ℕ, suc, List, [], ◌∷◌, length, Bool, false, Option, Some, None, slice_get, IsSome, ◌≤◌, ⊤}
 use Rattle.std.specs.Option.{IfSome}
-use Rattle.turk_base.specs.Names.{Name}
 use Rattle.turk_base.specs.Errors.{built_in}
 use Rattle.turk_base.specs.State.{St}
 use Rattle.ask_model.specs.declared.AskStop.{AskStop}

@@ -11,6 +11,7 @@ ghost use Rattle.run_host.specs.Moment.{cells};
 ghost use Rattle.run_host.specs.Told.{exit_needs};
 ghost use Rattle.run_host.specs.Steps.{Takes};
 ghost use Rattle.machine_host.specs.Asking.{Indexed, Loses, Refuses, AwaitsTask, Asks};
+ghost use Rattle.machine_host.specs.Chain.{IsStill, Closes, Later};
 ghost use Rattle.machine_host.specs.Moments.{unmade_in};
 ghost use Rattle.machine_host.specs.Sound.{IsGood, AreOpen, IsNamed};
 ghost use Rattle.machine_host.specs.Runs.{heap_of, moment_of, IsSound};
@@ -46,6 +47,7 @@ impl<A: Asker> AskedRun<A> {
         ensures more { cells (moment_of A.seen A.words self.old) ≤ cells (moment_of A.seen A.words self.new) }
         ensures asker { self.new.asker ≡ self.old.asker }
         ensures notes { self.new.notes ≡ self.old.notes }
+        ensures still { IsStill self.old self.new }
         ensures sound { IsSound A.is_sound A.refuses A.seen self.new }
     {
         if self.closed || self.guarded.machine.calls() == u32::MAX {
@@ -74,6 +76,7 @@ impl<A: Asker> AskedRun<A> {
         ensures told { Refuses (unmade_in unmade) stop result (moment_of A.seen A.words self.old) (moment_of A.seen A.words self.new) }
         ensures thrown { exit_needs result ≡ 0 }
         ensures more { cells (moment_of A.seen A.words self.old) ≤ cells (moment_of A.seen A.words self.new) }
+        ensures closes { Closes stop unmade self.old self.new }
         ensures sound { IsSound A.is_sound A.refuses A.seen self.new }
     {
         self.closed = true;
@@ -97,6 +100,7 @@ impl<A: Asker> AskedRun<A> {
         ensures did { Asks (posts text.now) (path_in path) (moment_of A.seen A.words self.old) (moment_of A.seen A.words self.new) result }
         ensures more { cells (moment_of A.seen A.words self.old) ≤ cells (moment_of A.seen A.words self.new) }
         ensures thrown { IfErr result (λ x. exit_needs x ≡ 0) }
+        ensures later { Later A.seen A.fits A.keeps A.tells_tasks A.tells_traces A.moment A.left_since self.old self.new }
         ensures sound { IsSound A.is_sound A.refuses A.seen self.new }
     {
         if text.len() > MOST_UNITS {
@@ -125,6 +129,7 @@ impl<A: Asker> AskedRun<A> {
         ensures did { Asks (replies task.now) (path_in path) (moment_of A.seen A.words self.old) (moment_of A.seen A.words self.new) result }
         ensures more { cells (moment_of A.seen A.words self.old) ≤ cells (moment_of A.seen A.words self.new) }
         ensures thrown { IfErr result (λ x. exit_needs x ≡ 0) }
+        ensures later { Later A.seen A.fits A.keeps A.tells_tasks A.tells_traces A.moment A.left_since self.old self.new }
         ensures sound { IsSound A.is_sound A.refuses A.seen self.new }
     {
         if task.len() > MOST_UNITS {
@@ -146,6 +151,7 @@ impl<A: Asker> AskedRun<A> {
         ensures told { AwaitsTask task result (moment_of A.seen A.words self.old) (moment_of A.seen A.words self.new) }
         ensures thrown { exit_needs result ≡ 0 }
         ensures more { cells (moment_of A.seen A.words self.old) ≤ cells (moment_of A.seen A.words self.new) }
+        ensures still { IsStill self.old self.new }
         ensures sound { IsSound A.is_sound A.refuses A.seen self.new }
     {
         match note(&mut self.notes.waits, Wait::Task(task)) {
@@ -165,6 +171,7 @@ impl<A: Asker> AskedRun<A> {
         ensures did { Asks (draws bound) (path_in path) (moment_of A.seen A.words self.old) (moment_of A.seen A.words self.new) result }
         ensures more { cells (moment_of A.seen A.words self.old) ≤ cells (moment_of A.seen A.words self.new) }
         ensures thrown { IfErr result (λ x. exit_needs x ≡ 0) }
+        ensures later { Later A.seen A.fits A.keeps A.tells_tasks A.tells_traces A.moment A.left_since self.old self.new }
         ensures sound { IsSound A.is_sound A.refuses A.seen self.new }
     {
         match self.asker.draw(&path, bound) {
@@ -179,6 +186,7 @@ impl<A: Asker> AskedRun<A> {
         ensures did { Takes (λ nu. ask (Post text.now)) (λ nu t. t) result (moment_of A.seen A.words self.old) (moment_of A.seen A.words self.new) }
         ensures more { cells (moment_of A.seen A.words self.old) ≤ cells (moment_of A.seen A.words self.new) }
         ensures thrown { IfErr result (λ x. exit_needs x ≡ 0) }
+        ensures later { Later A.seen A.fits A.keeps A.tells_tasks A.tells_traces A.moment A.left_since self.old self.new }
         ensures sound { IsSound A.is_sound A.refuses A.seen self.new }
     {
         let path = self.take_index()?;
@@ -198,6 +206,7 @@ impl<A: Asker> AskedRun<A> {
         ensures did { Takes (λ nu. ask (Reply task.now)) (λ nu t. t) result (moment_of A.seen A.words self.old) (moment_of A.seen A.words self.new) }
         ensures more { cells (moment_of A.seen A.words self.old) ≤ cells (moment_of A.seen A.words self.new) }
         ensures thrown { IfErr result (λ x. exit_needs x ≡ 0) }
+        ensures later { Later A.seen A.fits A.keeps A.tells_tasks A.tells_traces A.moment A.left_since self.old self.new }
         ensures sound { IsSound A.is_sound A.refuses A.seen self.new }
     {
         let path = self.take_index()?;
@@ -218,6 +227,7 @@ impl<A: Asker> AskedRun<A> {
         ensures did { Takes (λ nu. ask (Draw bound)) (λ nu n. n) result (moment_of A.seen A.words self.old) (moment_of A.seen A.words self.new) }
         ensures more { cells (moment_of A.seen A.words self.old) ≤ cells (moment_of A.seen A.words self.new) }
         ensures thrown { IfErr result (λ x. exit_needs x ≡ 0) }
+        ensures later { Later A.seen A.fits A.keeps A.tells_tasks A.tells_traces A.moment A.left_since self.old self.new }
         ensures sound { IsSound A.is_sound A.refuses A.seen self.new }
     {
         let path = self.take_index()?;

@@ -10,6 +10,7 @@ ghost use Rattle.run_host.specs.Moment.{cells};
 ghost use Rattle.run_host.specs.Told.{Says, Halts, told_value, exit_needs};
 ghost use Rattle.run_host.specs.Scopes.{told_fork};
 ghost use Rattle.machine_host.specs.Asking.{Loses};
+ghost use Rattle.machine_host.specs.Chain.{IsStill};
 ghost use Rattle.machine_host.specs.Leaving.{LeftBack, LeftWith, joined_in, EndsFork};
 ghost use Rattle.machine_host.specs.Runs.{heap_of, moment_of, IsSound};
 
@@ -29,6 +30,7 @@ impl<A: Asker> AskedRun<A> {
         ensures lost { IfErr result (λ x. x ≡ Exit.Stopped AskStop.Memory) }
         ensures asker { self.new.asker ≡ self.old.asker }
         ensures notes { self.new.notes ≡ self.old.notes }
+        ensures still { IsStill self.old self.new }
         ensures sound { IsSound A.is_sound A.refuses A.seen self.new }
     {
         let Some(entered) = self.entered.pop() else {
@@ -48,6 +50,7 @@ impl<A: Asker> AskedRun<A> {
         ensures lost { IfErr result (λ x. x ≡ Exit.Stopped AskStop.Memory) }
         ensures asker { self.new.asker ≡ self.old.asker }
         ensures notes { self.new.notes ≡ self.old.notes }
+        ensures still { IsStill self.old self.new }
         ensures sound { IsSound A.is_sound A.refuses A.seen self.new }
     {
         let Some(entered) = self.entered.pop() else {
@@ -63,6 +66,7 @@ impl<A: Asker> AskedRun<A> {
         requires sound { IsSound A.is_sound A.refuses A.seen self.old }
         ensures ok { OnOk result (LeftBack (absent (heap_of self.old).scope.path) (moment_of A.seen A.words self.old) (moment_of A.seen A.words self.new)) }
         ensures err { IfErr result (λ x. Loses x (moment_of A.seen A.words self.old) (moment_of A.seen A.words self.new)) }
+        ensures still { IsStill self.old self.new }
         ensures sound { IsSound A.is_sound A.refuses A.seen self.new }
     {
         self.guarded.machine.known();
@@ -78,6 +82,7 @@ impl<A: Asker> AskedRun<A> {
         ensures ok { OnOk result (LeftWith (joined_in (moment_of A.seen A.words self.old)) (moment_of A.seen A.words self.old) (moment_of A.seen A.words self.new)) }
         ensures more { cells (moment_of A.seen A.words self.old) ≤ cells (moment_of A.seen A.words self.new) }
         ensures err { IfErr result (λ x. Loses x (moment_of A.seen A.words self.old) (moment_of A.seen A.words self.new)) }
+        ensures still { IsStill self.old self.new }
         ensures sound { IsSound A.is_sound A.refuses A.seen self.new }
     {
         let joined = self.guarded.machine.join(false);
@@ -97,6 +102,7 @@ impl<A: Asker> AskedRun<A> {
         requires value { needs value ≤ cells (moment_of A.seen A.words self.old) }
         ensures ok { OnOk result (LeftWith (λ nu. give_value (val_in nu value) (joined_in (moment_of A.seen A.words self.old) nu)) (moment_of A.seen A.words self.old) (moment_of A.seen A.words self.new)) }
         ensures err { IfErr result (λ x. Loses x (moment_of A.seen A.words self.old) (moment_of A.seen A.words self.new)) }
+        ensures still { IsStill self.old self.new }
         ensures sound { IsSound A.is_sound A.refuses A.seen self.new }
     {
         self.branch_joined()?;
@@ -114,6 +120,7 @@ impl<A: Asker> AskedRun<A> {
         ensures ok { OnOk result (LeftWith (λ nu. threw (heap_of self.old).scope.path (joined_in (moment_of A.seen A.words self.old) nu)) (moment_of A.seen A.words self.old) (moment_of A.seen A.words self.new)) }
         ensures more { cells (moment_of A.seen A.words self.old) ≤ cells (moment_of A.seen A.words self.new) }
         ensures err { IfErr result (λ x. Loses x (moment_of A.seen A.words self.old) (moment_of A.seen A.words self.new)) }
+        ensures still { IsStill self.old self.new }
         ensures sound { IsSound A.is_sound A.refuses A.seen self.new }
     {
         let Ok(path) = self.guarded.machine.path().copy(self.alloc) else {
@@ -134,6 +141,7 @@ impl<A: Asker> AskedRun<A> {
         requires value { needs value ≤ cells (moment_of A.seen A.words self.old) }
         ensures did { EndsFork (λ nu. Says (Normal (val_in nu value))) (moment_of A.seen A.words self.old) (λ nu. told_fork nu result) (moment_of A.seen A.words self.new) }
         ensures thrown { IfErr result (λ x. exit_needs x ≡ 0) }
+        ensures still { IsStill self.old self.new }
         ensures sound { IsSound A.is_sound A.refuses A.seen self.new }
     {
         if self.guarded.machine.lacks_branch() {
@@ -148,6 +156,7 @@ impl<A: Asker> AskedRun<A> {
         requires value { needs value ≤ cells (moment_of A.seen A.words self.old) }
         ensures did { EndsFork (λ nu. Says (Thrown (val_in nu value))) (moment_of A.seen A.words self.old) (λ nu. told_fork nu result) (moment_of A.seen A.words self.new) }
         ensures thrown { IfErr result (λ x. exit_needs x ≤ cells (moment_of A.seen A.words self.new)) }
+        ensures still { IsStill self.old self.new }
         ensures sound { IsSound A.is_sound A.refuses A.seen self.new }
     {
         if self.guarded.machine.lacks_branch() {
@@ -162,6 +171,7 @@ impl<A: Asker> AskedRun<A> {
         requires sound { IsSound A.is_sound A.refuses A.seen self.old }
         ensures did { EndsFork (λ nu. Halts (Halt.Refused why)) (moment_of A.seen A.words self.old) (λ nu. told_fork nu result) (moment_of A.seen A.words self.new) }
         ensures thrown { IfErr result (λ x. exit_needs x ≡ 0) }
+        ensures still { IsStill self.old self.new }
         ensures sound { IsSound A.is_sound A.refuses A.seen self.new }
     {
         if self.guarded.machine.lacks_branch() {
@@ -176,6 +186,7 @@ impl<A: Asker> AskedRun<A> {
         requires sound { IsSound A.is_sound A.refuses A.seen self.old }
         ensures did { EndsFork (λ nu. Halts halt) (moment_of A.seen A.words self.old) (λ nu. told_fork nu result) (moment_of A.seen A.words self.new) }
         ensures thrown { IfErr result (λ x. exit_needs x ≡ 0) }
+        ensures still { IsStill self.old self.new }
         ensures sound { IsSound A.is_sound A.refuses A.seen self.new }
     {
         match halt {
@@ -195,6 +206,7 @@ impl<A: Asker> AskedRun<A> {
         requires thrown { IfErr ended (λ x. exit_needs x ≤ cells (moment_of A.seen A.words self.old)) }
         ensures did { EndsFork (λ nu. told_value nu ended) (moment_of A.seen A.words self.old) (λ nu. told_fork nu result) (moment_of A.seen A.words self.new) }
         ensures thrown { IfErr result (λ x. exit_needs x ≤ cells (moment_of A.seen A.words self.new)) }
+        ensures still { IsStill self.old self.new }
         ensures sound { IsSound A.is_sound A.refuses A.seen self.new }
     {
         match ended {

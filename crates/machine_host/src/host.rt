@@ -10,9 +10,12 @@ use value_cells::{CellKind, Value};
 /// an index or a scope more, for a text or a value past the limits of a record, and where a call asks for what is not there: a
 /// name that its frame lacks, or the end of a scope when none is open.
 impl<A: Asker> Host for AskedRun<A> {
-    ghost use Rattle.machine_host.specs.Runs.{moment_of, IsSound};
+    ghost use Rattle.machine_host.specs.Laws.{chain_of};
+    ghost use Rattle.machine_host.specs.Runs.{moment_in, moment_of, IsSound};
 
-    ghost moment = { λ h. moment_of A.seen A.words h };
+    ghost chain = { chain_of A.seen A.fits A.keeps A.tells_tasks A.tells_traces A.moment A.left_since };
+
+    ghost moment = { λ h. moment_in _ h (moment_of A.seen A.words h) };
 
     ghost is_sound = { λ h. IsSound A.is_sound A.refuses A.seen h };
 

@@ -8,11 +8,12 @@ ghost use Rattle.turk_base.specs.declared.Record.TheVariants.{Once as Kept};
 ghost use Rattle.record_bytes.specs.Limits.{IsRecordWithin};
 ghost use Rattle.value_cells.specs.Needs.{needs};
 ghost use Rattle.value_cells.specs.Seen.{Naming, val_in};
-ghost use Rattle.run_host.specs.Moment.{Moment, cells};
+ghost use Rattle.run_host.specs.Moment.{Moment, alone, cells};
 ghost use Rattle.run_host.specs.Told.{Says, told_value, exit_needs};
 ghost use Rattle.run_host.specs.Did.{Runs};
 ghost use Rattle.run_host.specs.Scopes.{Local, OpensOnce};
 ghost use Rattle.machine_host.specs.Bodies.{gift_at, goes_on, TakesData, LeavesBy, RefusesOnce, recorded, PutsAnew, KeepsData, EndsOnce};
+ghost use Rattle.machine_host.specs.Chain.{IsStill, Later};
 ghost use Rattle.machine_host.specs.Runs.{moment_of, IsSound};
 
 use crate::exits::{answer_of, exit_of};
@@ -58,6 +59,7 @@ impl<A: Asker> AskedRun<A> {
         requires value { needs value.now ≤ cells (moment_of A.seen A.words self.old) }
         ensures did { TakesData value.now result (moment_of A.seen A.words self.old) (moment_of A.seen A.words self.new) }
         ensures thrown { IfErr result (λ x. exit_needs x ≡ 0) }
+        ensures still { IsStill self.old self.new }
         ensures sound { IsSound A.is_sound A.refuses A.seen self.new }
     {
         let taken = self.guarded.machine.take(value);
@@ -71,6 +73,7 @@ impl<A: Asker> AskedRun<A> {
         requires thrown { exit_needs exit ≤ cells (moment_of A.seen A.words self.old) }
         ensures left { LeavesBy exit result (moment_of A.seen A.words self.old) (moment_of A.seen A.words self.new) }
         ensures thrown { exit_needs result ≤ cells (moment_of A.seen A.words self.new) }
+        ensures still { IsStill self.old self.new }
         ensures sound { IsSound A.is_sound A.refuses A.seen self.new }
     {
         if !goes_on(&exit) {
@@ -91,6 +94,7 @@ impl<A: Asker> AskedRun<A> {
         ensures made { IfOk result (λ d. moment_of A.seen A.words self.new ≡ recorded (path_in path) gift (moment_of A.seen A.words self.old)) }
         ensures refused { IfErr result (λ x. RefusesOnce (path_in path) gift x (moment_of A.seen A.words self.old) (moment_of A.seen A.words self.new)) }
         ensures thrown { IfErr result (λ x. exit_needs x ≡ 0) }
+        ensures later { Later A.seen A.fits A.keeps A.tells_tasks A.tells_traces A.moment A.left_since self.old self.new }
         ensures sound { IsSound A.is_sound A.refuses A.seen self.new }
     {
         if self.closed || path.len() == 0 || path.len() > MOST_INDEXES {
@@ -115,6 +119,7 @@ impl<A: Asker> AskedRun<A> {
         ensures did { PutsAnew gift.now result (moment_of A.seen A.words self.old) (moment_of A.seen A.words self.new) }
         ensures exists { IfOk result (λ v. needs v ≤ cells (moment_of A.seen A.words self.new)) }
         ensures thrown { IfErr result (λ x. exit_needs x ≡ 0) }
+        ensures still { IsStill self.old self.new }
         ensures sound { IsSound A.is_sound A.refuses A.seen self.new }
     {
         self.take_back()?;
@@ -129,6 +134,7 @@ impl<A: Asker> AskedRun<A> {
         ensures did { KeepsData gift result (moment_of A.seen A.words self.old) (moment_of A.seen A.words self.new) }
         ensures exists { IfOk result (λ v. needs v ≤ cells (moment_of A.seen A.words self.new)) }
         ensures thrown { IfErr result (λ x. exit_needs x ≡ 0) }
+        ensures later { Later A.seen A.fits A.keeps A.tells_tasks A.tells_traces A.moment A.left_since self.old self.new }
         ensures sound { IsSound A.is_sound A.refuses A.seen self.new }
     {
         let Ok(path) = self.guarded.machine.path().copy(self.alloc) else {
@@ -145,6 +151,7 @@ impl<A: Asker> AskedRun<A> {
         ensures did { EndsOnce (λ nu. Says (Normal (val_in nu value))) (moment_of A.seen A.words self.old) (λ nu. told_value nu result) (moment_of A.seen A.words self.new) }
         ensures exists { IfOk result (λ v. needs v ≤ cells (moment_of A.seen A.words self.new)) }
         ensures thrown { IfErr result (λ x. exit_needs x ≤ cells (moment_of A.seen A.words self.new)) }
+        ensures later { Later A.seen A.fits A.keeps A.tells_tasks A.tells_traces A.moment A.left_since self.old self.new }
         ensures sound { IsSound A.is_sound A.refuses A.seen self.new }
     {
         match self.body_data(&value) {
@@ -159,10 +166,11 @@ impl<A: Asker> AskedRun<A> {
         requires sound { IsSound A.is_sound A.refuses A.seen self.old }
         requires value { IfOk ended (λ v. needs v ≤ cells (moment_of A.seen A.words self.old)) }
         requires thrown { IfErr ended (λ x. exit_needs x ≤ cells (moment_of A.seen A.words self.old)) }
-        ensures did { (g : Naming → Prog) (before opened : Moment) → Local (cells before) g → OpensOnce before opened → Runs g (λ nu. told_value nu ended) opened (moment_of A.seen A.words self.old)
+        ensures did { (g : Naming → Prog) (before opened : Moment alone) → Local (cells before) g → OpensOnce before opened → Runs g (λ nu. told_value nu ended) opened (moment_of A.seen A.words self.old)
             → Runs (λ nu. Once (g nu)) (λ nu. told_value nu result) before (moment_of A.seen A.words self.new) }
         ensures exists { IfOk result (λ v. needs v ≤ cells (moment_of A.seen A.words self.new)) }
         ensures thrown { IfErr result (λ x. exit_needs x ≤ cells (moment_of A.seen A.words self.new)) }
+        ensures later { Later A.seen A.fits A.keeps A.tells_tasks A.tells_traces A.moment A.left_since self.old self.new }
         ensures sound { IsSound A.is_sound A.refuses A.seen self.new }
     {
         match ended {

@@ -10,6 +10,7 @@ ghost use Rattle.eval_ops.specs.Run.{seen_of, count};
 ghost use Rattle.run_host.specs.Moment.{cells};
 ghost use Rattle.run_host.specs.Told.{exit_needs};
 ghost use Rattle.machine_host.specs.Asking.{Loses};
+ghost use Rattle.machine_host.specs.Chain.{IsStill};
 ghost use Rattle.machine_host.specs.Onces.{CountsOnce, OnceGives};
 ghost use Rattle.machine_host.specs.Runs.{moment_of, IsSound};
 
@@ -49,11 +50,13 @@ impl<A: Asker> AskedRun<A> {
         requires sound { IsSound A.is_sound A.refuses A.seen self.old }
         ensures counted { IfOk result (λ p. CountsOnce p (moment_of A.seen A.words self.old) (moment_of A.seen A.words self.new)) }
         ensures short { IfOk result (λ p. length p ≤ 800) }
+        ensures open { IfOk result (λ p. self.new.closed ≡ false) }
         ensures ready { IfOk result (λ p. IsReady p self.new.guarded.machine.heap.place.path self.new.guarded.machine.heap.place.calls (names_in self.new.guarded.machine.heap.cells.now)) }
         ensures lost { IfErr result (λ x. Loses x (moment_of A.seen A.words self.old) (moment_of A.seen A.words self.new)) }
         ensures more { cells (moment_of A.seen A.words self.old) ≤ cells (moment_of A.seen A.words self.new) }
         ensures asker { self.new.asker ≡ self.old.asker }
         ensures notes { self.new.notes ≡ self.old.notes }
+        ensures still { IsStill self.old self.new }
         ensures sound { IsSound A.is_sound A.refuses A.seen self.new }
     {
         self.guarded.machine.once_at();

@@ -13,6 +13,7 @@ ghost use Rattle.run_host.specs.Moment.{cells};
 ghost use Rattle.run_host.specs.Told.{Says, told_exit, exit_needs};
 ghost use Rattle.run_host.specs.Did.{Runs};
 ghost use Rattle.run_host.specs.Scopes.{OpensOnce, OpensFork};
+ghost use Rattle.machine_host.specs.Chain.{IsStill, Later};
 ghost use Rattle.machine_host.specs.Runs.{heap_of, moment_of, IsSound};
 
 use crate::AskedRun;
@@ -34,6 +35,7 @@ impl<A: Asker> AskedRun<A> {
         ensures asker { self.new.asker ≡ self.old.asker }
         ensures notes { self.new.notes ≡ self.old.notes }
         ensures more { cells (moment_of A.seen A.words self.old) ≤ cells (moment_of A.seen A.words self.new) }
+        ensures still { IsStill self.old self.new }
         ensures sound { IsSound A.is_sound A.refuses A.seen self.new }
     {
         if self.entered.reserve(1).is_err() {
@@ -57,6 +59,7 @@ impl<A: Asker> AskedRun<A> {
         ensures out { IfErr result (λ x. (g : Naming → Prog) → Runs (λ nu. Fork (g nu)) (λ nu. told_exit nu x) (moment_of A.seen A.words self.old) (moment_of A.seen A.words self.new)) }
         ensures more { cells (moment_of A.seen A.words self.old) ≤ cells (moment_of A.seen A.words self.new) }
         ensures thrown { IfErr result (λ x. exit_needs x ≡ 0) }
+        ensures later { Later A.seen A.fits A.keeps A.tells_tasks A.tells_traces A.moment A.left_since self.old self.new }
         ensures sound { IsSound A.is_sound A.refuses A.seen self.new }
     {
         if self.guarded.machine.in_once() {
@@ -86,6 +89,7 @@ impl<A: Asker> AskedRun<A> {
         ensures more { cells (moment_of A.seen A.words self.old) ≤ cells (moment_of A.seen A.words self.new) }
         ensures exists { IfOk result (λ o. option_needs o ≤ cells (moment_of A.seen A.words self.new)) }
         ensures thrown { IfErr result (λ x. exit_needs x ≡ 0) }
+        ensures later { Later A.seen A.fits A.keeps A.tells_tasks A.tells_traces A.moment A.left_since self.old self.new }
         ensures sound { IsSound A.is_sound A.refuses A.seen self.new }
     {
         let path = self.count_once()?;

@@ -1,5 +1,5 @@
 //! A run that begins, and what is left of one that ended.
-ghost use Rattle.std.specs.Prelude.{◌≡◌, [], false, map};
+ghost use Rattle.std.specs.Prelude.{◌≡◌, [], None, false, map};
 ghost use Rattle.std.specs.Option.{IfSome};
 ghost use Rattle.turk_base.specs.Told.{records_of};
 ghost use Rattle.eval_ops.specs.Run.{seen_of};
@@ -36,6 +36,9 @@ impl<A: Asker> AskedRun<A> {
         requires open { (A.seen asker).closed ≡ false }
         requires made { (A.seen asker).made ≡ [] }
         ensures begins { Begins session (records_of (A.seen asker).trace) (A.seen asker).replies (seen_of machine).left (A.words asker) (moment_of A.seen A.words result) }
+        ensures stopped { (moment_of A.seen A.words result).stopped ≡ None }
+        ensures asker { result.asker ≡ asker }
+        ensures open { result.closed ≡ false }
         ensures sound { IsSound A.is_sound A.refuses A.seen result }
     {
         machine.known();
@@ -64,6 +67,7 @@ impl<A: Asker> AskedRun<A> {
         ensures trace { records_of (A.seen result.asker).trace ≡ (moment_of A.seen A.words self).trace }
         ensures replies { (A.seen result.asker).replies ≡ (moment_of A.seen A.words self).pairs }
         ensures made { records_of (A.seen result.asker).made ≡ (moment_of A.seen A.words self).made }
+        ensures asker { result.asker ≡ self.asker }
         ensures cause { IfSome (moment_of A.seen A.words self).stopped (λ why. Refused A.refuses (A.seen result.asker) (moment_of A.seen A.words self).unmade why) }
         ensures sound { A.is_sound result.asker }
     {

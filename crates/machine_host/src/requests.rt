@@ -9,6 +9,7 @@ ghost use Rattle.eval_ops.specs.Run.{seen_of, count};
 ghost use Rattle.run_host.specs.Moment.{cells};
 ghost use Rattle.run_host.specs.Told.{exit_needs};
 ghost use Rattle.run_host.specs.Steps.{Gives, Takes};
+ghost use Rattle.machine_host.specs.Chain.{IsStill};
 ghost use Rattle.machine_host.specs.Runs.{moment_of, IsSound};
 
 use crate::AskedRun;
@@ -27,6 +28,7 @@ impl<A: Asker> AskedRun<A> {
         ensures spent { OnOk result ((moment_of A.seen A.words self.new).heap.left + units ≡ (moment_of A.seen A.words self.old).heap.left) }
         ensures more { cells (moment_of A.seen A.words self.old) ≤ cells (moment_of A.seen A.words self.new) }
         ensures thrown { IfErr result (λ x. exit_needs x ≡ 0) }
+        ensures still { IsStill self.old self.new }
         ensures sound { IsSound A.is_sound A.refuses A.seen self.new }
     {
         let answer = self.guarded.machine.pay(units);
@@ -42,6 +44,7 @@ impl<A: Asker> AskedRun<A> {
         ensures more { cells (moment_of A.seen A.words self.old) ≤ cells (moment_of A.seen A.words self.new) }
         ensures exists { IfOk result (λ i. i < cells (moment_of A.seen A.words self.new)) }
         ensures thrown { IfErr result (λ x. exit_needs x ≡ 0) }
+        ensures still { IsStill self.old self.new }
         ensures sound { IsSound A.is_sound A.refuses A.seen self.new }
     {
         let answer = self.guarded.machine.make(kind);
@@ -57,6 +60,7 @@ impl<A: Asker> AskedRun<A> {
         ensures more { cells (moment_of A.seen A.words self.old) ≤ cells (moment_of A.seen A.words self.new) }
         ensures exists { IfOk result (λ v. option_needs v ≤ cells (moment_of A.seen A.words self.new)) }
         ensures thrown { IfErr result (λ x. exit_needs x ≡ 0) }
+        ensures still { IsStill self.old self.new }
         ensures sound { IsSound A.is_sound A.refuses A.seen self.new }
     {
         let answer = self.guarded.machine.get(cell, key);
@@ -72,6 +76,7 @@ impl<A: Asker> AskedRun<A> {
         ensures did { Takes (λ nu. ask (Put (nu cell) key.now (val_in nu value))) (λ nu u. u) result (moment_of A.seen A.words self.old) (moment_of A.seen A.words self.new) }
         ensures more { cells (moment_of A.seen A.words self.old) ≤ cells (moment_of A.seen A.words self.new) }
         ensures thrown { IfErr result (λ x. exit_needs x ≡ 0) }
+        ensures still { IsStill self.old self.new }
         ensures sound { IsSound A.is_sound A.refuses A.seen self.new }
     {
         let answer = self.guarded.machine.put(cell, key, value);
@@ -86,6 +91,7 @@ impl<A: Asker> AskedRun<A> {
         ensures did { Takes (λ nu. ask (Remove (nu cell) key.now)) (λ nu b. b) result (moment_of A.seen A.words self.old) (moment_of A.seen A.words self.new) }
         ensures more { cells (moment_of A.seen A.words self.old) ≤ cells (moment_of A.seen A.words self.new) }
         ensures thrown { IfErr result (λ x. exit_needs x ≡ 0) }
+        ensures still { IsStill self.old self.new }
         ensures sound { IsSound A.is_sound A.refuses A.seen self.new }
     {
         let answer = self.guarded.machine.remove(cell, key);
@@ -100,6 +106,7 @@ impl<A: Asker> AskedRun<A> {
         ensures did { Takes (λ nu. ask (Keys (nu cell))) (λ nu ks. ks.items) result (moment_of A.seen A.words self.old) (moment_of A.seen A.words self.new) }
         ensures more { cells (moment_of A.seen A.words self.old) ≤ cells (moment_of A.seen A.words self.new) }
         ensures thrown { IfErr result (λ x. exit_needs x ≡ 0) }
+        ensures still { IsStill self.old self.new }
         ensures sound { IsSound A.is_sound A.refuses A.seen self.new }
     {
         let answer = self.guarded.machine.listed(cell);
@@ -113,6 +120,7 @@ impl<A: Asker> AskedRun<A> {
         ensures did { Takes (λ nu. ask (Print line.now)) (λ nu u. u) result (moment_of A.seen A.words self.old) (moment_of A.seen A.words self.new) }
         ensures more { cells (moment_of A.seen A.words self.old) ≤ cells (moment_of A.seen A.words self.new) }
         ensures thrown { IfErr result (λ x. exit_needs x ≡ 0) }
+        ensures still { IsStill self.old self.new }
         ensures sound { IsSound A.is_sound A.refuses A.seen self.new }
     {
         let answer = self.guarded.machine.print(line);
@@ -128,6 +136,7 @@ impl<A: Asker> AskedRun<A> {
         ensures more { cells (moment_of A.seen A.words self.old) ≤ cells (moment_of A.seen A.words self.new) }
         ensures exists { IfOk result (λ v. needs v ≤ cells (moment_of A.seen A.words self.new)) }
         ensures thrown { IfErr result (λ x. exit_needs x ≡ 0) }
+        ensures still { IsStill self.old self.new }
         ensures sound { IsSound A.is_sound A.refuses A.seen self.new }
     {
         if !self.guarded.machine.has(frame, name) {
@@ -146,6 +155,7 @@ impl<A: Asker> AskedRun<A> {
         ensures did { Takes (λ nu. ask (WriteName (nu frame) name.now (val_in nu value))) (λ nu u. u) result (moment_of A.seen A.words self.old) (moment_of A.seen A.words self.new) }
         ensures more { cells (moment_of A.seen A.words self.old) ≤ cells (moment_of A.seen A.words self.new) }
         ensures thrown { IfErr result (λ x. exit_needs x ≡ 0) }
+        ensures still { IsStill self.old self.new }
         ensures sound { IsSound A.is_sound A.refuses A.seen self.new }
     {
         let answer = set_name(&mut self.guarded.machine, frame, name, value);
@@ -161,6 +171,7 @@ impl<A: Asker> AskedRun<A> {
         ensures did { Takes (λ nu. ask (Declare (nu frame) name.now (val_in nu value))) (λ nu u. u) result (moment_of A.seen A.words self.old) (moment_of A.seen A.words self.new) }
         ensures more { cells (moment_of A.seen A.words self.old) ≤ cells (moment_of A.seen A.words self.new) }
         ensures thrown { IfErr result (λ x. exit_needs x ≡ 0) }
+        ensures still { IsStill self.old self.new }
         ensures sound { IsSound A.is_sound A.refuses A.seen self.new }
     {
         let answer = set_name(&mut self.guarded.machine, frame, name, value);

@@ -8,6 +8,7 @@ ghost use Rattle.run_host.specs.Moment.{cells};
 ghost use Rattle.run_host.specs.Told.{told_value, exit_needs};
 ghost use Rattle.run_host.specs.Did.{Runs};
 ghost use Rattle.run_host.specs.Steps.{Leaves, Takes};
+ghost use Rattle.machine_host.specs.Chain.{IsStill};
 ghost use Rattle.machine_host.specs.Runs.{moment_of, IsSound};
 
 use crate::exits::{exit_of, value_of};
@@ -39,6 +40,7 @@ impl<A: Asker> AskedRun<A> {
         ensures more { cells (moment_of A.seen A.words self.old) ≤ cells (moment_of A.seen A.words self.new) }
         ensures exists { IfOk result (λ v. needs v ≤ cells (moment_of A.seen A.words self.new)) }
         ensures thrown { IfErr result (λ x. exit_needs x ≤ cells (moment_of A.seen A.words self.new)) }
+        ensures still { IsStill self.old self.new }
         ensures sound { IsSound A.is_sound A.refuses A.seen self.new }
     {
         let ended = call_made(self.alloc, &mut self.guarded, which, this, arguments);
@@ -65,6 +67,7 @@ impl<A: Asker> AskedRun<A> {
         ensures more { cells (moment_of A.seen A.words self.old) ≤ cells (moment_of A.seen A.words self.new) }
         ensures exists { IfOk result (λ v. needs v ≤ cells (moment_of A.seen A.words self.new)) }
         ensures thrown { IfErr result (λ x. exit_needs x ≡ 0) }
+        ensures still { IsStill self.old self.new }
         ensures sound { IsSound A.is_sound A.refuses A.seen self.new }
     {
         if self.guarded.machine.in_once() {
@@ -85,6 +88,7 @@ impl<A: Asker> AskedRun<A> {
         ensures did { Leaves (λ nu. ask Crash) result (moment_of A.seen A.words self.old) (moment_of A.seen A.words self.new) }
         ensures more { cells (moment_of A.seen A.words self.old) ≤ cells (moment_of A.seen A.words self.new) }
         ensures thrown { exit_needs result ≡ 0 }
+        ensures still { IsStill self.old self.new }
         ensures sound { IsSound A.is_sound A.refuses A.seen self.new }
     {
         let Ok(scope) = self.guarded.machine.path().copy(self.alloc) else {

@@ -1,5 +1,6 @@
 //! Copies of what is told where a call of the asker was refused.
-ghost use Rattle.std.specs.Prelude.{◌≡◌, IfOk};
+ghost use Rattle.std.specs.Prelude.{◌≡◌, IfOk, IfErr};
+ghost use Rattle.machine_host.specs.Chain.{IsDivergence};
 
 use ask_model::{AskStop, Called, Divergence, Kept};
 use std::alloc::Global;
@@ -39,9 +40,10 @@ fn copy_divergence(alloc: Global, divergence: &Divergence) -> Result<Divergence,
     Ok(Divergence { path, kept, called })
 }
 
-/// An equal refusal.
+/// An equal refusal. Only the copy of a divergence takes memory.
 pub fn copy_stop(alloc: Global, stop: &AskStop) -> Result<AskStop, NoMemory>
-    ensures { IfOk result (λ copy. copy ≡ stop.now) }
+    ensures copy { IfOk result (λ copy. copy ≡ stop.now) }
+    ensures lost { IfErr result (λ lost. IsDivergence stop.now) }
 {
     match stop {
         AskStop::Fault(which) => Ok(AskStop::Fault(*which)),

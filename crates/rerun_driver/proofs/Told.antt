@@ -1,5 +1,5 @@
 -- What a run over an empty trace comes to, by what was told of it.
-use Rattle.std.specs.Prelude.{Result, Ok, Err, IfOk, IfErr}
+use Rattle.std.specs.Prelude.{Bool, Result, Ok, Err, IfOk, IfErr}
 use Rattle.std.proofs.Common.{◌≡◌, ◌≤◌, ◌<◌, suc, inl, inr, ℕ, List, [], ◌∷◌, ◌++◌, Option, Some, None, length, refl, sym, ◌∙◌, ap, subst, arith, length-append}
 use Rattle.turk_base.specs.Names.{Units}
 use Rattle.turk_base.specs.Encodings.{bytes_of}
@@ -17,6 +17,8 @@ use Rattle.ask_model.specs.declared.AskStop.{AskStop}
 use Rattle.ask_model.specs.declared.AskStop.TheVariants as asked
 use Rattle.run_host.specs.Moment.{Unmade, asking, keeping, nothing_known, draws_in}
 use Rattle.run_host.specs.Told.{next_in, next_fresh}
+use Rattle.machine_host.specs.declared.Unmade.{Unmade as CodeUnmade}
+use Rattle.machine_host.specs.Moments.{unmade_in}
 use Rattle.machine_host.specs.Sound.{IsNamed}
 use Rattle.script_run.specs.Tells.{Asks, HasCause, IsRan, IsStopped, Knows, Tells, StopIs, by_record, by_asker}
 use Rattle.script_run.specs.declared.Ran.{Ran}
@@ -45,7 +47,7 @@ full word S E fuel (asking p q) m is named many f = inner (fresh q E (draws_in m
 full word S E fuel (keeping p d) m is named many f = past m _ _ many f
 full word S E fuel nothing_known m is named many f = absurd named
 
-module _ (S : Script) (session : Units) (word : ℕ → ℕ) (fuel : ℕ) (old new : Asked) (none : old.trace ≡ []) (asks : Asks word old new) (within : KnowsWithin new) where
+module _ (S : Script) (session : Units) (word : ℕ → ℕ) (fuel : ℕ) (old new : Asked) (fits : Entry → Bool) (none : old.trace ≡ []) (asks : Asks word old new) (within : KnowsWithin new) where
   abbrev E : World
   E = plain_world session old.replies word
 
@@ -71,22 +73,22 @@ module _ (S : Script) (session : Units) (word : ℕ → ℕ) (fuel : ℕ) (old n
     refl,
   )
 
-  stopped : (u : Unmade) (why : AskStop) → StopIs (HasCause IsFullOrLost new u) E u (records_of new.made) (eval (meaning S) E [] fuel) why → IsRunOf S E fuel (told_as (Err why) (length new.made))
+  stopped : (u : CodeUnmade) (why : AskStop) → StopIs (HasCause IsFullOrLost fits new u) E (unmade_in u) (records_of new.made) (eval (meaning S) E [] fuel) why → IsRunOf S E fuel (told_as (Err why) (length new.made))
   stopped u (asked.Fault which) (by_asker (inl e) f) = absurd (cc)
-  stopped u (asked.Fault which) (by_asker (inr r) f) = absurd r.may
+  stopped u (asked.Fault which) (by_asker (inr r) f) = absurd r.refused.may
   stopped u (asked.Diverged d) (by_record t out made) = absurd (never_diverges (meaning S) E fuel _ out)
   stopped u (asked.Diverged d) (by_asker (inl e) f) = absurd (cc)
-  stopped u (asked.Diverged d) (by_asker (inr r) f) = absurd r.may
+  stopped u (asked.Diverged d) (by_asker (inr r) f) = absurd r.refused.may
   stopped u asked.TraceFull (by_asker (inl e) f) = absurd (cc)
-  stopped u asked.TraceFull (by_asker (inr r) f) = full word S E fuel u _ refl r.named (subst (λ n. 65536 ≤ n) alone (r.full refl)) f
+  stopped u asked.TraceFull (by_asker (inr r) f) = full word S E fuel (unmade_in u) _ refl r.refused.named (subst (λ n. 65536 ≤ n) alone (r.refused.full refl)) f
   stopped u asked.LogFull (by_asker (inl e) f) = absurd (cc)
-  stopped u asked.LogFull (by_asker (inr r) f) = absurd r.may
+  stopped u asked.LogFull (by_asker (inr r) f) = absurd r.refused.may
   stopped u asked.Memory s = tt
 
   -- The run that was answered so comes to what is told of it.
-  pub comes_to : (answer : Result Ran AskStop) → IfOk answer (λ ran. IsRan S session old new fuel ran) → IfErr answer (λ why. (u : Unmade) × IsStopped (HasCause IsFullOrLost new u) u S session old new fuel why) →
+  pub comes_to : (answer : Result Ran AskStop) → IfOk answer (λ ran. IsRan S session old new fuel ran) → IfErr answer (λ why. (u : CodeUnmade) × IsStopped (HasCause IsFullOrLost fits new u) (unmade_in u) S session old new fuel why) →
       (result : Result Report Stop) → IsTold answer (length new.made) result → IsRunOf S E fuel result
   comes_to answer ran why result (inr e) = subst (IsRunOf S E fuel) (sym e) tt
   comes_to (Ok x) ran why result (inl e) = subst (IsRunOf S E fuel) (sym e) (reported x (subst (λ l. Tells x (records_of new.made) (Eval S E (records_of l) fuel)) none (ran E knows)))
   comes_to (Err x) ran why result (inl e) =
-      subst (IsRunOf S E fuel) (sym e) (stopped why.0 x (subst (λ l. StopIs (HasCause IsFullOrLost new why.0) E why.0 (records_of new.made) (eval (meaning S) E (records_of l) fuel) x) none (why.1 E knows)))
+      subst (IsRunOf S E fuel) (sym e) (stopped why.0 x (subst (λ l. StopIs (HasCause IsFullOrLost fits new why.0) E (unmade_in why.0) (records_of new.made) (eval (meaning S) E (records_of l) fuel) x) none (why.1 E knows)))

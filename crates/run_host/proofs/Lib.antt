@@ -1,3 +1,4 @@
+pub mod Along
 pub mod Comes
 pub mod Exits
 pub mod Fits

@@ -1,5 +1,5 @@
 -- Moments one after another.
-use Rattle.std.specs.Prelude.{List, length, Some, slice_get, pos, int_rem}
+use Rattle.std.specs.Prelude.{List, length, Option, Some, slice_get, pos, int_rem}
 use Rattle.std.proofs.Common.{◌≡◌, ◌≤◌, ◌<◌, ◌+◌, ℕ, suc, refl, sym, ap, subst, ◌∙◌, arith, [], ◌∷◌, ◌++◌, ◌⊎◌, inl, inr, get_or}
 use Rattle.std.proofs.lemmas.Option.{slice_get_within, slice_get-get_or}
 use Rattle.std.proofs.lemmas.Bool.{cases_lt}
@@ -15,7 +15,10 @@ use Rattle.run_laws.proofs.Within.{After}
 use Rattle.run_laws.proofs.Looks.{ends_counted, ends_before}
 use Rattle.run_laws.proofs.Props.{in_split}
 use Rattle.value_cells.specs.Seen.{Naming, Fits, Grows, Scope}
-use Rattle.run_host.specs.Moment.{Moment, cells, drawn_by, draws_in, Deals, AllDealt, Moves, Suits, Clear, place, Same, Within}
+use Rattle.ask_model.specs.declared.AskStop.TheVariants.{Memory, Fault, Diverged, TraceFull, LogFull}
+use Rattle.ask_model.specs.declared.AskStop.{AskStop}
+use Rattle.run_host.specs.Told.{Told, Says, Halts, Fails, IsShown}
+use Rattle.run_host.specs.Moment.{Chain, Moment, cells, drawn_by, draws_in, Deals, AllDealt, Moves, Suits, Clear, place, Same, Within}
 use native.Mathlib.Nat.{le_refl, le_trans}
 
 pub fits_before : {nu : Naming} {old new : List Name} → Grows old new → Fits nu new → Fits nu old
@@ -28,22 +31,33 @@ there (x ∷ xs) i h = (get_or (x ∷ xs) i x, slice_get-get_or (x ∷ xs) i x h
 some_same : {x y : Name} → Some x ≡ Some y → x ≡ y
 some_same e = cc
 
-pub same_refl : {m : Moment} → Same m m
-same_refl = record { session = refl; trace = refl; pairs = refl; grows = λ i n e. e }
+pub same_refl : {κ : Chain} {m : Moment κ} → Same m m
+same_refl {κ} {m} = record { later = κ.stays m.asker; session = refl; trace = refl; pairs = refl; grows = λ i n e. e }
 
-pub same_trans : {a b c : Moment} → Same a b → Same b c → Same a c
-same_trans h k = record { session = k.session ∙ h.session; trace = k.trace ∙ h.trace; pairs = k.pairs ∙ h.pairs; grows = λ i n e. k.grows i n (h.grows i n e) }
+pub same_trans : {κ : Chain} {a b c : Moment κ} → Same a b → Same b c → Same a c
+same_trans {κ} {a} {b} {c} h k = record { later = κ.goes_on a.asker b.asker c.asker h.later k.later; session = k.session ∙ h.session; trace = k.trace ∙ h.trace; pairs = k.pairs ∙ h.pairs; grows = λ i n e. k.grows i n (h.grows i n e) }
 
-pub within_refl : {m : Moment} → Within m m
-within_refl {m} = record {
+-- what is told after a part in which no call was refused
+pub shown_on : (t : Told) (a b c : Option AskStop) → b ≡ a → IsShown t b c → IsShown t a c
+shown_on (Says o) a b c e s = s ∙ e
+shown_on (Halts h) a b c e s = s ∙ e
+shown_on (Fails Memory) a b c e (inl s) = inl (s ∙ e)
+shown_on (Fails Memory) a b c e (inr s) = inr s
+shown_on (Fails (Fault which)) a b c e s = s
+shown_on (Fails (Diverged d)) a b c e s = s
+shown_on (Fails TraceFull) a b c e s = s
+shown_on (Fails LogFull) a b c e s = s
+
+pub within_refl : {κ : Chain} {m : Moment κ} → Within m m
+within_refl {κ} {m} = record {
   scope = refl;
   outer = refl;
   below = λ i n e l. let h : i < length m.heap.names = slice_get_within m.heap.names i n e in absurd (omega arith);
   falls = le_refl m.heap.left;
 }
 
-pub within_trans : {a b c : Moment} → Same b c → Within a b → Within b c → Within a c
-within_trans {a} {b} {c} g h k = record {
+pub within_trans : {κ : Chain} {a b c : Moment κ} → Same b c → Within a b → Within b c → Within a c
+within_trans {κ} {a} {b} {c} g h k = record {
   scope = k.scope ∙ h.scope;
   outer = k.outer ∙ h.outer;
   below = λ i n e l. new_below i n e l (cases_lt i (cells b));
@@ -60,21 +74,21 @@ dealt_front : (d : Draws) (k : ℕ) (l m : List Rec) → AllDealt d k (l ++ m) �
 dealt_front d k [] m h = tt
 dealt_front d k (rec p x ∷ l) m h = (h.0, dealt_front d (drawn_by x k) l m h.1)
 
-pub suits_before : {E : World} {old new : Moment} → Same old new → (added : List Rec) → new.made ≡ old.made ++ added → Suits E new → Suits E old
-suits_before {E} {old} {new} s added e h = record {
+pub suits_before : {κ : Chain} {E : World} {old new : Moment κ} → Same old new → (added : List Rec) → new.made ≡ old.made ++ added → Suits E new → Suits E old
+suits_before {κ} {E} {old} {new} s added e h = record {
   session = h.session ∙ s.session;
   pairs = h.pairs ∙ s.pairs;
   dealt = dealt_front E.dice 0 old.made added (subst (λ l. AllDealt E.dice 0 l) e h.dealt);
 }
 
-pub place_after : {E : World} {bound : ℕ} {old new : Moment} → Same old new → Within old new → place E bound new ≡ place E bound old
-place_after {E} {bound} {old} {new} s h = ap (λ t. record { world = E; trace = t; bound = bound; scope = new.heap.scope.path; branch = new.heap.scope.branch; body = new.heap.scope.body }) s.trace
+pub place_after : {κ : Chain} {E : World} {bound : ℕ} {old new : Moment κ} → Same old new → Within old new → place E bound new ≡ place E bound old
+place_after {κ} {E} {bound} {old} {new} s h = ap (λ t. record { world = E; trace = t; bound = bound; scope = new.heap.scope.path; branch = new.heap.scope.branch; body = new.heap.scope.body }) s.trace
     ∙ ap (λ (c : Scope). record { world = E; trace = old.trace; bound = bound; scope = c.path; branch = c.branch; body = c.body }) h.scope
 
 -- What was made lies at calls that were counted.
-pub clear_after : {nu : Naming} {E : World} {bound : ℕ} {old new : Moment} {g : Prog} {o : Outcome} {w w' : Rest} {added : List Rec} →
+pub clear_after : {κ : Chain} {nu : Naming} {E : World} {bound : ℕ} {old new : Moment κ} {g : Prog} {o : Outcome} {w w' : Rest} {added : List Rec} →
     Within old new → new.made ≡ old.made ++ added → Ends (place E bound old) g o (old.heap.first nu) w (new.heap.first nu) w' added → Clear nu old → Clear nu new
-clear_after {nu} {E} {bound} {old} {new} {g} {o} {w} {w'} {added} s e h c r m a = elim (in_split old.made added (subst (λ l. In Rec r l) e m)) [
+clear_after {κ} {nu} {E} {bound} {old} {new} {g} {o} {w} {w'} {added} s e h c r m a = elim (in_split old.made added (subst (λ l. In Rec r l) e m)) [
   | inl i ↦ c r i (earlier (subst (λ (p : Scope). After p.path (new.heap.first nu).calls (path_of r)) s.scope a))
   | inr j ↦ ends_before h r j (subst (λ (p : Scope). After p.path (new.heap.first nu).calls (path_of r)) s.scope a)
 ]
@@ -89,8 +103,8 @@ pub nowhere : Naming
 nowhere i = cell root i
 
 -- nothing was drawn
-pub moves_none : {m : Moment} → Moves m m []
-moves_none {m} = record { on = λ k. ap m.words (omega arith) }
+pub moves_none : {κ : Chain} {m : Moment κ} → Moves m m []
+moves_none {κ} {m} = record { on = λ k. ap m.words (omega arith) }
 
 counted : (l m : List Rec) → draws_in (l ++ m) ≡ draws_in l + draws_in m
 counted [] m = omega arith
@@ -102,8 +116,8 @@ counted (rec p x ∷ l) m = by x (counted l m)
     by (kept.Draw b v) e = omega (arith, e)
     by (kept.Once d) e = e
 
-pub moves_twice : {a b c : Moment} (l m : List Rec) → Moves a b l → Moves b c m → Moves a c (l ++ m)
-moves_twice {a} {b} {c} l m h g = record { on = λ k. g.on k ∙ h.on (draws_in m + k) ∙ ap a.words (let e = counted l m in omega (arith, e)) }
+pub moves_twice : {κ : Chain} {a b c : Moment κ} (l m : List Rec) → Moves a b l → Moves b c m → Moves a c (l ++ m)
+moves_twice {κ} {a} {b} {c} l m h g = record { on = λ k. g.on k ∙ h.on (draws_in m + k) ∙ ap a.words (let e = counted l m in omega (arith, e)) }
 
 -- the words from one on are those from another
 dealt_shift : (v w : ℕ → ℕ) (n j : ℕ) (l : List Rec) → ((k : ℕ) → v k ≡ w (n + k)) → AllDealt (words v) j l → AllDealt (words w) (n + j) l
@@ -127,5 +141,5 @@ dealt_more d k (rec p x ∷ l) m h g = (h.0, by x h.1 g (λ i. dealt_more d i l 
     by (kept.Draw b y) h g ih = ih (suc k) h (subst (λ i. AllDealt d i m) (omega arith) g)
     by (kept.Once c) h g ih = ih k h g
 
-pub dealt_twice : {a b : Moment} (l m : List Rec) → AllDealt (words a.words) 0 l → Moves a b l → AllDealt (words b.words) 0 m → AllDealt (words a.words) 0 (l ++ m)
-dealt_twice {a} {b} l m h g k = dealt_more (words a.words) 0 l m h (dealt_shift b.words a.words (draws_in l) 0 m g.on k)
+pub dealt_twice : {κ : Chain} {a b : Moment κ} (l m : List Rec) → AllDealt (words a.words) 0 l → Moves a b l → AllDealt (words b.words) 0 m → AllDealt (words a.words) 0 (l ++ m)
+dealt_twice {κ} {a} {b} l m h g k = dealt_more (words a.words) 0 l m h (dealt_shift b.words a.words (draws_in l) 0 m g.on k)

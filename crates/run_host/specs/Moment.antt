@@ -21,8 +21,21 @@ pub data Unmade : Type 0 where
   keeping : (p : Path) → (d : Data) → Unmade
   nothing_known : Unmade
 
-pub record Moment : Type 0 where
+-- The states of what answers a run, and what holds between an earlier one and a later one.
+pub record Chain : Type 1 where
+  pub State : Type 0
+  pub To : State → State → Type 0
+  pub stays : (a : State) → To a a
+  pub goes_on : (a b c : State) → To a b → To b c → To a c
+
+-- where nothing answers
+abbrev pub alone : Chain
+alone = record { State = Unit {0}; To = λ a b. Unit {0}; stays = λ a. tt; goes_on = λ a b c x y. tt }
+
+pub record Moment (κ : Chain) : Type 0 where
   pub heap : Seen
+  -- what answers the run
+  pub asker : κ.State
   -- how many forks took an index, and what was waited for
   pub forks : ℕ
   pub waits : List Wait
@@ -37,16 +50,20 @@ pub record Moment : Type 0 where
   pub stopped : Option AskStop
   pub unmade : Unmade
 
+-- the same moment of a run that nothing answers
+abbrev pub apart : {κ : Chain} → Moment κ → Moment alone
+apart m = record { heap = m.heap; asker = tt; forks = m.forks; waits = m.waits; session = m.session; trace = m.trace; pairs = m.pairs; made = m.made; words = m.words; stopped = m.stopped; unmade = m.unmade }
+
 -- how many cells there are
-abbrev pub cells : Moment → ℕ
+abbrev pub cells : {κ : Chain} → Moment κ → ℕ
 cells m = count m.heap
 
 -- the first seven cells are the built-in ones
-pub record HasBuiltIns (m : Moment) : Type 0 where
+pub record HasBuiltIns {κ : Chain} (m : Moment κ) : Type 0 where
   pub named : (i : ℕ) → i < 7 → slice_get m.heap.names i ≡ Some (built_in i)
 
 -- no two cells have one name
-pub record AreApart (m : Moment) : Type 0 where
+pub record AreApart {κ : Chain} (m : Moment κ) : Type 0 where
   pub named : (i j : ℕ) (n : Name) → slice_get m.heap.names i ≡ Some n → slice_get m.heap.names j ≡ Some n → i ≡ j
 
 abbrev pub drawn_by : Record → ℕ → ℕ
@@ -60,7 +77,7 @@ abbrev pub draws_in : List Rec → ℕ
 draws_in [] = 0
 draws_in (rec p x ∷ l) = drawn_by x (draws_in l)
 
-abbrev pub rest_of : Moment → Rest
+abbrev pub rest_of : {κ : Chain} → Moment κ → Rest
 rest_of m = record { left = m.heap.left; drawn = draws_in m.made; forks = m.forks; waits = m.waits }
 
 -- The draws give what this record tells of, where k draws were made before it.
@@ -75,33 +92,34 @@ AllDealt d k [] = Unit {0}
 AllDealt d k (rec p x ∷ l) = Deals d k p x × AllDealt d (drawn_by x k) l
 
 -- a world of the session and the replies, whose draws give those that were made
-pub record Suits (E : World) (m : Moment) : Type 0 where
+pub record Suits {κ : Chain} (E : World) (m : Moment κ) : Type 0 where
   pub session : E.session ≡ m.session
   pub pairs : E.pairs ≡ m.pairs
   pub dealt : AllDealt E.dice 0 m.made
 
 -- No record that was made stands at or below a call that is still to come.
-abbrev pub Clear : Naming → Moment → Type 0
+abbrev pub Clear : {κ : Chain} → Naming → Moment κ → Type 0
 Clear nu m = (r : Rec) → In Rec r m.made → After m.heap.scope.path (m.heap.first nu).calls (path_of r) → ⊥
 
 -- the place of a run at a moment; loops turn less often than `bound`
-abbrev pub place : World → ℕ → Moment → Place
+abbrev pub place : {κ : Chain} → World → ℕ → Moment κ → Place
 place E bound m = record { world = E; trace = m.trace; bound = bound; scope = m.heap.scope.path; branch = m.heap.scope.branch; body = m.heap.scope.body }
 
--- what no step changes
-pub record Same (old new : Moment) : Type 0 where
+-- What no step changes; and what answers the run goes on along its chain.
+pub record Same {κ : Chain} (old new : Moment κ) : Type 0 where
+  pub later : κ.To old.asker new.asker
   pub session : new.session ≡ old.session
   pub trace : new.trace ≡ old.trace
   pub pairs : new.pairs ≡ old.pairs
   pub grows : Grows old.heap.names new.heap.names
 
 -- The scope is as before, what was made stands in it or below it, and no fuel was won.
-pub record Within (old new : Moment) : Type 0 where
+pub record Within {κ : Chain} (old new : Moment κ) : Type 0 where
   pub scope : new.heap.scope ≡ old.heap.scope
   pub outer : new.heap.outer ≡ old.heap.outer
   pub below : (i : ℕ) (n : Name) → slice_get new.heap.names i ≡ Some n → cells old ≤ i → Under old.heap.scope.path (home n)
   pub falls : new.heap.left ≤ old.heap.left
 
 -- The words of the draws among these records were drawn.
-pub record Moves (old new : Moment) (added : List Rec) : Type 0 where
+pub record Moves {κ : Chain} (old new : Moment κ) (added : List Rec) : Type 0 where
   pub on : (k : ℕ) → new.words k ≡ old.words (draws_in added + k)

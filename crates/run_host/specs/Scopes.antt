@@ -7,7 +7,7 @@ use Rattle.turk_base.specs.Asks.{find}
 use Rattle.turk_base.specs.Prog.{Prog}
 use Rattle.value_cells.specs.Seen.{Naming, Seen, Fits, count}
 use Rattle.run_host.specs.declared.Exit.{Exit}
-use Rattle.run_host.specs.Moment.{Moment}
+use Rattle.run_host.specs.Moment.{Chain, Moment}
 use Rattle.run_host.specs.Told.{Told, Says, told_exit}
 
 -- a program that knows no cells but the first so many
@@ -26,7 +26,8 @@ pub record KnowsItsCells (s : Seen) : Type 0 where
   pub only : (nu : Naming) (n : Name) → IsSome ((s.first nu).known n) → (i : ℕ) × (i < count s) × (nu i ≡ n)
 
 -- The scope of a call that has no record was opened: a branch, or a once body.
-pub record Opens (is_branch : Bool) (old new : Moment) : Type 0 where
+pub record Opens {κ : Chain} (is_branch : Bool) (old new : Moment κ) : Type 0 where
+  pub later : κ.To old.asker new.asker
   pub cells : KnowsItsCells old.heap
   pub names : new.heap.names ≡ old.heap.names
   pub left : new.heap.left ≡ old.heap.left
@@ -36,19 +37,20 @@ pub record Opens (is_branch : Bool) (old new : Moment) : Type 0 where
   pub made : new.made ≡ old.made
   pub words : new.words ≡ old.words
   pub waits : new.waits ≡ old.waits
+  pub stopped : new.stopped ≡ old.stopped
   pub outer : new.heap.outer ≡ old.heap.scope ∷ old.heap.outer
   pub first : (nu : Naming) → Fits nu old.heap.names → new.heap.first nu ≡ enter (called is_branch old.heap.scope.branch (old.heap.first nu))
   pub back : (nu : Naming) → Fits nu old.heap.names → new.heap.scope.back nu ≡ called is_branch old.heap.scope.branch (old.heap.first nu)
   pub path : (nu : Naming) → new.heap.scope.path ≡ sub (old.heap.first nu).calls old.heap.scope.path
   pub unfound : find new.heap.scope.path old.trace ≡ None
 
-pub record OpensOnce (old new : Moment) : Type 0 where
+pub record OpensOnce {κ : Chain} (old new : Moment κ) : Type 0 where
   pub opens : Opens false old new
   pub branch : new.heap.scope.branch ≡ old.heap.scope.branch
   pub body : new.heap.scope.body ≡ true
   pub forks : new.forks ≡ old.forks
 
-pub record OpensFork (old new : Moment) : Type 0 where
+pub record OpensFork {κ : Chain} (old new : Moment κ) : Type 0 where
   pub opens : Opens true old new
   pub here : old.heap.scope.body ≡ false
   pub branch : new.heap.scope.branch ≡ new.heap.scope.path

@@ -1,5 +1,5 @@
 -- What a function of an evaluator says, and what it says of a run.
-use Rattle.std.specs.Prelude.{◌≡◌, ℕ, suc, max, Option, Some, None, Result, Ok, Err}
+use Rattle.std.specs.Prelude.{◌≡◌, ◌⊎◌, ℕ, suc, max, Option, Some, None, Result, Ok, Err}
 use Rattle.turk_base.specs.Names.{Path, path_in}
 use Rattle.turk_base.specs.Values as model
 use Rattle.turk_base.specs.Values.{Val, Outcome}
@@ -148,9 +148,10 @@ next_of E drawn u (stop.Diverged d) = next_in E drawn u
 next_of E drawn u stop.TraceFull = next_in E drawn u
 next_of E drawn u stop.LogFull = next_in E drawn u
 
--- the refusal that is told is the one that the moment has
-abbrev pub IsShown : Told → Option AskStop → Type 0
-IsShown (Says o) s = Unit {0}
-IsShown (Halts h) s = Unit {0}
-IsShown (Fails stop.Memory) s = Unit {0}
-IsShown (Fails why) s = s ≡ Some why
+-- By what is told of a run, from the refusal that its moment had to the one that it has: where a refusal is told, that one; where
+-- memory ran out, it is that or none is new; else none is new.
+abbrev pub IsShown : Told → Option AskStop → Option AskStop → Type 0
+IsShown (Says o) before now = now ≡ before
+IsShown (Halts h) before now = now ≡ before
+IsShown (Fails stop.Memory) before now = (now ≡ before) ⊎ (now ≡ Some stop.Memory)
+IsShown (Fails why) before now = now ≡ Some why

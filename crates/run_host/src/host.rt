@@ -7,7 +7,7 @@ ghost use Rattle.turk_base.specs.Prog.{Prog, Pay, KindOf, Make, Inherits, Get, P
 ghost use Rattle.turk_base.specs.BuiltIns.{call_built_in};
 ghost use Rattle.value_cells.specs.Needs.{needs, option_needs, all_needs, kind_needs};
 ghost use Rattle.value_cells.specs.Seen.{Naming, val_in, kind_in};
-ghost use Rattle.run_host.specs.Moment.{Moment, cells, HasBuiltIns, AreApart};
+ghost use Rattle.run_host.specs.Moment.{Chain, Moment, cells, HasBuiltIns, AreApart};
 ghost use Rattle.run_host.specs.Told.{Says, told_value, told_exit, exit_needs};
 ghost use Rattle.run_host.specs.Did.{Runs};
 ghost use Rattle.run_host.specs.Steps.{Gives, Leaves, Takes};
@@ -22,8 +22,11 @@ use value_cells::{CellKind, Value};
 /// Contracts see a host as the moment of a run. Each call does what the meaning of a script does at that request, whatever
 /// comes after it. It answers an exit exactly where that ends the run or the branch; and want of memory, at any call.
 pub trait Host {
+    /// What answers its asks: its states, and what holds between an earlier one and a later one.
+    ghost chain: { Chain };
+
     /// The moment of the run.
-    ghost moment: { Self → Moment };
+    ghost moment: { Self → Moment chain };
 
     /// What holds of a host in each state that its calls leave.
     ghost is_sound: { Self → Type 0 };
@@ -214,7 +217,7 @@ pub trait Host {
         requires sound { is_sound self.old }
         requires value { IfOk ended (λ v. needs v ≤ cells (moment self.old)) }
         requires thrown { IfErr ended (λ x. exit_needs x ≤ cells (moment self.old)) }
-        ensures did { (g : Naming → Prog) (before opened : Moment) → Local (cells before) g → OpensOnce before opened → Runs g (λ nu. told_value nu ended) opened (moment self.old)
+        ensures did { (g : Naming → Prog) (before opened : Moment chain) → Local (cells before) g → OpensOnce before opened → Runs g (λ nu. told_value nu ended) opened (moment self.old)
             → Runs (λ nu. Once (g nu)) (λ nu. told_value nu result) before (moment self.new) }
         ensures exists { IfOk result (λ v. needs v ≤ cells (moment self.new)) }
         ensures thrown { IfErr result (λ x. exit_needs x ≤ cells (moment self.new)) }
@@ -235,7 +238,7 @@ pub trait Host {
         requires sound { is_sound self.old }
         requires value { IfOk ended (λ v. needs v ≤ cells (moment self.old)) }
         requires thrown { IfErr ended (λ x. exit_needs x ≤ cells (moment self.old)) }
-        ensures did { (g : Naming → Prog) (before opened : Moment) → Local (cells before) g → OpensFork before opened → Runs g (λ nu. told_value nu ended) opened (moment self.old)
+        ensures did { (g : Naming → Prog) (before opened : Moment chain) → Local (cells before) g → OpensFork before opened → Runs g (λ nu. told_value nu ended) opened (moment self.old)
             → Runs (λ nu. Fork (g nu)) (λ nu. told_fork nu result) before (moment self.new) }
         ensures thrown { IfErr result (λ x. exit_needs x ≤ cells (moment self.new)) }
         ensures sound { is_sound self.new };

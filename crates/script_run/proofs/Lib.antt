@@ -1,3 +1,8 @@
 mod Finishing
+mod Fronts
+mod Lefts
+mod Rests
+mod Since
+mod Sources
 mod Telling
 mod Whole

@@ -1,11 +1,12 @@
 -- What is told of a run, by how its last statement ended.
-use Rattle.std.specs.Prelude.{ℕ, List, [], ◌∷◌, Option, Result, Ok, Err, IfErr}
+use Rattle.std.specs.Prelude.{ℕ, List, [], ◌∷◌, Option, Result, Ok, Err, IfErr, Bool, false, Some, None}
 use Rattle.std.specs.Option.{IfSome}
-use Rattle.std.proofs.Common.{◌≡◌, refl, sym, ap, ◌∙◌, subst, inl, inr, IsErrAnd}
+use Rattle.std.proofs.Common.{◌≡◌, ◌⊎◌, refl, sym, ap, ◌∙◌, subst, inl, inr, IsErrAnd}
 use Rattle.turk_base.specs.Names.{Units}
 use Rattle.turk_base.specs.Asks.{Rec}
 use Rattle.turk_base.specs.State.{St}
 use Rattle.turk_base.specs.Told.{records_of}
+use Rattle.turk_base.specs.declared.Entry.{Entry}
 use Rattle.js_tree.specs.declared.Script.{Script}
 use Rattle.js_tree.specs.Run.{Res, branch_end}
 use Rattle.js_tree.specs.World.{World, Rest}
@@ -22,12 +23,17 @@ use Rattle.run_host.specs.declared.Exit.TheVariants.{Stopped}
 use Rattle.run_host.specs.declared.Flow.{Flow}
 use Rattle.run_host.specs.Moment.{Unmade, nothing_known}
 use Rattle.run_host.specs.Told.{Told, Says, Halts, Fails, told_flow, IsShown}
+use Rattle.machine_host.specs.declared.AskedRun.{AskedRun}
+use Rattle.machine_host.specs.declared.Unmade.TheVariants.{Nothing}
 use Rattle.machine_host.specs.declared.Wait.{Wait as CodeWait}
+use Rattle.machine_host.specs.Moments.{unmade_in}
+use Rattle.machine_host.specs.Chain.{IsRecordOf, IsCause}
 use Rattle.machine_host.proofs.Turns.{naming}
 use Rattle.script_run.specs.Closes.{ClosesAt}
-use Rattle.script_run.specs.Tells.{StopIs, by_asker, HasCause, EndsBy, Refused, IsCome, IsStopped}
+use Rattle.script_run.specs.Tells.{StopIs, by_asker, HasCause, EndsBy, Refused, IsRefused, IsCome, IsStopped}
 
-front_of : (m : List Rec) (x : Next) (e : Res) → Follows m x e → Front m e.made
+-- what was made is a front of what is made
+pub front_of : (m : List Rec) (x : Next) (e : Res) → Follows m x e → Front m e.made
 front_of m (makes r) e f = front (r ∷ f.rest) (f.is ∙ assoc m (r ∷ []) f.rest)
 front_of m lacks_draw e f = front [] (f.1 ∙ nothing_more m)
 front_of m unknown e f = f
@@ -43,26 +49,41 @@ pub stops_told : (cause : AskStop → Type 0) (u : Unmade) (S : Script) (session
 stops_told cause u S session old new fuel forks waits s flow why k f = let n = naming s.names in λ E kn. f n.0 n.1 E u _ _ _ (k n.0 n.1 E kn)
 
 -- a refusal that is told has its cause
-pub has_cause : {refuses : AskStop → Type 0} {s : Asked} {u : Unmade} (why : AskStop) (told : Option AskStop) → IsShown (Fails why) told → IfSome told (λ why. Refused refuses s u why) → HasCause refuses s u why
-has_cause Memory told shown h = inl refl
-has_cause {refuses} {s} {u} (Fault which) told shown h = inr (subst (λ o. IfSome o (λ why. Refused refuses s u why)) shown h)
-has_cause {refuses} {s} {u} (Diverged d) told shown h = inr (subst (λ o. IfSome o (λ why. Refused refuses s u why)) shown h)
-has_cause {refuses} {s} {u} TraceFull told shown h = inr (subst (λ o. IfSome o (λ why. Refused refuses s u why)) shown h)
-has_cause {refuses} {s} {u} LogFull told shown h = inr (subst (λ o. IfSome o (λ why. Refused refuses s u why)) shown h)
+pub has_cause : (P : AskStop → Type 0) (why : AskStop) (before told : Option AskStop) → IsShown (Fails why) before told → IfSome told P → (why ≡ Memory) ⊎ P why
+has_cause P Memory before told shown h = inl refl
+has_cause P (Fault which) before told shown h = inr (subst (λ o. IfSome o P) shown h)
+has_cause P (Diverged d) before told shown h = inr (subst (λ o. IfSome o P) shown h)
+has_cause P TraceFull before told shown h = inr (subst (λ o. IfSome o P) shown h)
+has_cause P LogFull before told shown h = inr (subst (λ o. IfSome o P) shown h)
 
 -- the same of how a last statement ended
-pub caused : {refuses : AskStop → Type 0} {s : Asked} {u : Unmade} (nu : Naming) (flow : Result Flow Exit) (told : Option AskStop) → IsShown (told_flow nu flow) told → IfSome told (λ why. Refused refuses s u why)
-    → (why : AskStop) → flow ≡ Err (Stopped why) → HasCause refuses s u why
-caused nu flow told shown h why is = has_cause why told (subst (λ (r : Result Flow Exit). IsShown (told_flow nu r) told) is shown) h
+pub caused : (P : AskStop → Type 0) (nu : Naming) (flow : Result Flow Exit) (before told : Option AskStop) → IsShown (told_flow nu flow) before told → IfSome told P → (why : AskStop) → flow ≡ Err (Stopped why) → (why ≡ Memory) ⊎ P why
+caused P nu flow before told shown h why is = has_cause P why before told (subst (λ (r : Result Flow Exit). IsShown (told_flow nu r) before told) is shown) h
+
+-- what a run tells of a refusal that it tells
+pub told_cause : {A : Type 0} (seen : A → Asked) (fits : A → Entry → Bool) (refuses : AskStop → Type 0) (after : A) (h0 h1 : AskedRun A) → ((why : AskStop) → h1.notes.stopped ≡ Some why → (h0.notes.stopped ≡ Some why) ⊎ IsCause seen fits h1 why) → h0.notes.stopped ≡ None → after ≡ h1.asker
+    → (told : Option AskStop) → h1.notes.stopped ≡ told → IfSome told (λ why. Refused refuses (seen after) (unmade_in h1.notes.unmade) why) → IfSome told (λ why. IsRefused refuses (fits after) (seen after) h1.notes.unmade why)
+told_cause seen fits refuses after h0 h1 by quiet ends None is h = h
+told_cause {A} seen fits refuses after h0 h1 by quiet ends (Some why) is h = elim (by why is) [
+  | inl before ↦ absurd (quiet_still (sym quiet ∙ before))
+  | inr c ↦ record {
+      refused = h;
+      unfit = λ full. subst (λ (a : A). (e : Entry) × IsRecordOf (seen a).replies h1.notes.unmade e × (fits a e ≡ false)) (sym ends) (c.unfit full);
+      held = c.held;
+    }
+]
+  where
+    quiet_still : None ≡ Some why → ⊥
+    quiet_still e = cc
 
 -- memory ran out, or so the last statement ended: each has its cause
-pub end_caused : {refuses : AskStop → Type 0} {s : Asked} {u : Unmade} {flow : Result Flow Exit} → ((why : AskStop) → flow ≡ Err (Stopped why) → HasCause refuses s u why) → (why : AskStop) → EndsBy flow why → HasCause refuses s u why
+pub end_caused : {P : AskStop → Type 0} {flow : Result Flow Exit} → ((why : AskStop) → flow ≡ Err (Stopped why) → (why ≡ Memory) ⊎ P why) → (why : AskStop) → EndsBy flow why → (why ≡ Memory) ⊎ P why
 end_caused f why (inl lost) = inl lost
 end_caused f why (inr is) = f why is
 
 -- memory ran out before the first statement
-pub lost_first : {refuses : AskStop → Type 0} (S : Script) (session : Units) (s : Asked) (fuel : ℕ) → s.made ≡ [] → IsStopped (HasCause refuses s nothing_known) nothing_known S session s s fuel Memory
-lost_first {refuses} S session s fuel none = λ E kn. by_asker (inl refl)
+pub lost_first : {refuses : AskStop → Type 0} {fits : Entry → Bool} (S : Script) (session : Units) (s : Asked) (fuel : ℕ) → s.made ≡ [] → IsStopped (HasCause refuses fits s Nothing) nothing_known S session s s fuel Memory
+lost_first S session s fuel none = λ E kn. by_asker (inl refl)
     (let e = eval (meaning S) E (records_of s.trace) fuel in subst (λ l. Front (records_of l) e.made) (sym none) (front e.made refl))
 
 pub err_exit : {A : Type 0} (P : AskStop → Type 0) (r : Result A AskStop) (e : AskStop) → IsErrAnd r (λ x. x ≡ e) → P e → IfErr r P

@@ -19,7 +19,7 @@ use Rattle.ask_model.specs.Asker.{Seen as Asked}
 use Rattle.value_cells.specs.Seen.{Naming, Seen, Fits}
 use Rattle.run_host.specs.declared.Exit.{Exit}
 use Rattle.run_host.specs.declared.Flow.{Flow}
-use Rattle.run_host.specs.Moment.{Moment, Suits, Clear, AllDealt, place, rest_of, draws_in}
+use Rattle.run_host.specs.Moment.{alone, Moment, Suits, Clear, AllDealt, place, rest_of, draws_in}
 use Rattle.run_host.specs.Told.{Told, told_flow, next_of}
 use Rattle.run_host.specs.Ends.{Comes, says, halts, fails}
 use Rattle.run_host.specs.Did.{Runs}
@@ -44,14 +44,14 @@ follows_closed m unknown e f = f
 abbrev at_root : World → List Rec → ℕ → Place
 at_root E T n = record { world = E; trace = T; bound = suc n; scope = root; branch = root; body = false }
 
-closes_by : {S : Prog} {E : World} {T : List Rec} {n : ℕ} {nu : Naming} (new : Moment) (told : Told) →
+closes_by : {S : Prog} {E : World} {T : List Rec} {n : ℕ} {nu : Naming} (new : Moment alone) (told : Told) →
     Comes (at_root E T n) S start (fuel n) new.made (next_of E (draws_in new.made) new.unmade) told (new.heap.first nu) (rest_of new) →
     Closes E told nu new (eval S E T n)
 closes_by new _ (says e) = ap close (e.holds branch_end)
 closes_by new _ (halts h) = record { out = h.out; is = h.is; at = h.at; left = h.left; like = h.like; closed = ap close (h.stops.holds branch_end) }
 closes_by new _ (fails c) = follows_closed _ _ _ (c.holds branch_end)
 
-pub whole : {S : Prog} {told : Naming → Told} {session : Units} {T : List Rec} {pairs : List (Units × Units)} {n : ℕ} {words : ℕ → ℕ} {old new : Moment} →
+pub whole : {S : Prog} {told : Naming → Told} {session : Units} {T : List Rec} {pairs : List (Units × Units)} {n : ℕ} {words : ℕ → ℕ} {old new : Moment alone} →
     Begins session T pairs n words old → Runs (λ nu. S) told old new → (nu : Naming) → Fits nu new.heap.names → (E : World) → Suits E new → Closes E (told nu) nu new (eval S E T n)
 whole {S} {told} {session} {T} {pairs} {n} {words} {old} {new} b r nu f E s = closes_by new (told nu) (subst (λ l. Comes (at_root E T n) S start (fuel n) l next (told nu) (new.heap.first nu) (rest_of new)) (sym made) began)
   where
@@ -80,7 +80,7 @@ whole {S} {told} {session} {T} {pairs} {n} {words} {old} {new} b r nu f E s = cl
         (r.ran nu f E s (suc n) (let l = b.left in omega (arith, l)) clear)))
 
 -- the same, as it is told of what is left of a run
-pub come : (S : Script) (session : Units) (old new : Asked) (n forks : ℕ) (ws : List CodeWait) (s : Seen) (flow : Result Flow Exit) (words : ℕ → ℕ) (m0 m1 : Moment) →
+pub come : (S : Script) (session : Units) (old new : Asked) (n forks : ℕ) (ws : List CodeWait) (s : Seen) (flow : Result Flow Exit) (words : ℕ → ℕ) (m0 m1 : Moment alone) →
     Begins session (records_of old.trace) old.replies n words m0 → Runs (λ nu. meaning S) (λ nu. told_flow nu flow) m0 m1 →
     s ≡ m1.heap → forks ≡ m1.forks → map wait_in ws ≡ m1.waits → records_of new.made ≡ m1.made → IsCome m1.unmade S session old new n forks ws s flow
 come S session old new n forks ws s flow words m0 m1 b r heap f w made = λ nu fits E kn.
@@ -92,7 +92,7 @@ come S session old new n forks ws s flow words m0 m1 b r heap f w made = λ nu f
     (subst (λ l. ClosesAt E m1.unmade m1.made (told_flow nu flow) (m1.heap.first nu) (record { left = m1.heap.left; drawn = draws_in m1.made; forks = m1.forks; waits = l }) (eval (meaning S) E (records_of old.trace) n)) (sym w) c)))
 
 -- what was drawn are the next words, and the trace and the replies are as before
-pub asks : {S : Prog} {told : Naming → Told} (session : Units) (old new : Asked) (n : ℕ) (words : ℕ → ℕ) (m0 m1 : Moment) →
+pub asks : {S : Prog} {told : Naming → Told} (session : Units) (old new : Asked) (n : ℕ) (words : ℕ → ℕ) (m0 m1 : Moment alone) →
     Begins session (records_of old.trace) old.replies n words m0 → Runs (λ nu. S) told m0 m1 →
     records_of new.trace ≡ m1.trace → new.replies ≡ m1.pairs → records_of new.made ≡ m1.made → Asks words old new
 asks session old new n words m0 m1 b r trace pairs made = record {

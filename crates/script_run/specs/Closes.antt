@@ -9,7 +9,7 @@ use Rattle.run_laws.proofs.Cuts.{Follows}
 use Rattle.value_cells.specs.Seen.{Naming}
 use Rattle.run_host.specs.declared.Halt.{Halt}
 use Rattle.run_host.specs.Ends.{Like}
-use Rattle.run_host.specs.Moment.{Moment, Unmade, rest_of, draws_in}
+use Rattle.run_host.specs.Moment.{alone, Moment, Unmade, rest_of, draws_in}
 use Rattle.run_host.specs.Told.{Told, Says, Halts, Fails, IsOut, next_of}
 
 -- The run halted, with what is told of the state that it left, or of one that is like it.
@@ -28,5 +28,5 @@ ClosesAt E u made (Halts h) σ w e = HaltedAt h σ w made e
 ClosesAt E u made (Fails why) σ w e = Follows made (next_of E (draws_in made) u why) e
 
 -- the same at a moment
-abbrev pub Closes : World → Told → Naming → Moment → Res → Type 0
+abbrev pub Closes : World → Told → Naming → Moment alone → Res → Type 0
 Closes E told nu m e = ClosesAt E m.unmade m.made told (m.heap.first nu) (rest_of m) e

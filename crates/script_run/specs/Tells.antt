@@ -1,8 +1,9 @@
 -- What is told of the run of a whole script, and when that is so.
-use Rattle.std.specs.Prelude.{◌≡◌, ◌⊎◌, ℕ, List, map, Result, Err}
+use Rattle.std.specs.Prelude.{◌≡◌, ◌⊎◌, ℕ, Bool, false, List, map, Result, Err}
 use Rattle.turk_base.specs.Names.{Units}
 use Rattle.turk_base.specs.Asks.{Rec}
 use Rattle.turk_base.specs.Told.{verdict_told, records_of}
+use Rattle.turk_base.specs.declared.Entry.{Entry}
 use Rattle.turk_base.specs.Values.{Wait}
 use Rattle.js_tree.specs.World as world
 use Rattle.turk_base.specs.State.{St}
@@ -24,7 +25,9 @@ use Rattle.run_host.specs.declared.Exit.{Exit}
 use Rattle.run_host.specs.declared.Exit.TheVariants.{Stopped}
 use Rattle.run_host.specs.declared.Flow.{Flow}
 use Rattle.machine_host.specs.declared.Wait.{Wait as CodeWait}
-use Rattle.machine_host.specs.Moments.{wait_in}
+use Rattle.machine_host.specs.declared.Unmade.{Unmade as CodeUnmade}
+use Rattle.machine_host.specs.Moments.{wait_in, unmade_in}
+use Rattle.machine_host.specs.Chain.{IsRecordOf, IsHeldPost}
 pub use Rattle.machine_host.specs.Sound.{IsNamed, Refused}
 use Rattle.script_run.specs.Closes.{ClosesAt}
 use Rattle.script_run.specs.declared.End.{End}
@@ -55,9 +58,16 @@ pub record Tells (ran : Ran) (made : List Rec) (r : Report) : Type 0 where
   pub forks : ran.forks ≡ r.forks
   pub made_are : made ≡ r.made
 
--- Why a run is stopped by its asker: memory ran out, or the asker refused a call so, and the call's record is this one.
-abbrev pub HasCause : (AskStop → Type 0) → Asked → Unmade → AskStop → Type 0
-HasCause refuses s u why = (why ≡ stop.Memory) ⊎ Refused refuses s u why
+-- The asker refused a call so, and the call's record is this one: LogFull where that doesn't fit, Diverged where it is a post's, for
+-- which the board held another text.
+pub record IsRefused (refuses : AskStop → Type 0) (fits : Entry → Bool) (s : Asked) (u : CodeUnmade) (why : AskStop) : Type 0 where
+  pub refused : Refused refuses s (unmade_in u) why
+  pub unfit : why ≡ stop.LogFull → (e : Entry) × IsRecordOf s.replies u e × (fits e ≡ false)
+  pub held : (d : Divergence) → why ≡ stop.Diverged d → IsHeldPost d u
+
+-- Why a run is stopped by its asker: memory ran out, or the asker refused a call so.
+abbrev pub HasCause : (AskStop → Type 0) → (Entry → Bool) → Asked → CodeUnmade → AskStop → Type 0
+HasCause refuses fits s u why = (why ≡ stop.Memory) ⊎ IsRefused refuses fits s u why
 
 -- memory ran out, or so the last statement ended
 abbrev pub EndsBy : Result Flow Exit → AskStop → Type 0

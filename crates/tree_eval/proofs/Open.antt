@@ -16,7 +16,7 @@ use Rattle.run_host.specs.declared.Exit.{Exit}
 use Rattle.run_host.specs.declared.Flow.{Flow}
 use Rattle.run_host.specs.declared.Here.{Here as Spot}
 use Rattle.value_cells.specs.Needs.{needs}
-use Rattle.run_host.specs.Moment.{Moment, cells}
+use Rattle.run_host.specs.Moment.{Chain, Moment, cells}
 use Rattle.run_host.specs.Told.{told_value, told_flow, here_in, flow_needs, exit_needs}
 use Rattle.run_host.specs.Did.{Runs}
 use Rattle.tree_rows.specs.Nests.{Valued, Flowed}
@@ -45,17 +45,17 @@ level_back zero n = absurd (n refl)
 level_back (suc left) n = omega arith
 
 -- no node wins fuel, so what was paid first is spent
-pub value_paid : {g : Naming → Prog} (a : Moment) {b c : Moment} (r : Result Value Exit) → Runs g (λ nu. told_value nu r) b c → b.heap.left < a.heap.left → OnOk r (c.heap.left < a.heap.left)
+pub value_paid : {κ : Chain} {g : Naming → Prog} (a : Moment κ) {b c : Moment κ} (r : Result Value Exit) → Runs g (λ nu. told_value nu r) b c → b.heap.left < a.heap.left → OnOk r (c.heap.left < a.heap.left)
 value_paid a (Ok v) x l = let z = (x.within (λ i. cell root 0) tt).falls in omega (arith, z, l)
 value_paid a (Err e) x l = tt
 
-pub flow_paid : {g : Naming → Prog} (a : Moment) {b c : Moment} (r : Result Flow Exit) → Runs g (λ nu. told_flow nu r) b c → b.heap.left < a.heap.left → OnOk r (c.heap.left < a.heap.left)
+pub flow_paid : {κ : Chain} {g : Naming → Prog} (a : Moment κ) {b c : Moment κ} (r : Result Flow Exit) → Runs g (λ nu. told_flow nu r) b c → b.heap.left < a.heap.left → OnOk r (c.heap.left < a.heap.left)
 flow_paid a (Ok f) x l = let z = (x.within (λ i. cell root 0) tt).falls in omega (arith, z, l)
 flow_paid a (Err e) x l = tt
 
 -- ---- what a node leaves, over a table that is another's equal
 
-module _ (table other : List Code) (same : other ≡ table) (left : ℕ) (here : Spot) (old new : Moment) where
+module _ {κ : Chain} (table other : List Code) (same : other ≡ table) (left : ℕ) (here : Spot) (old new : Moment κ) where
   pub valued : (e : Expr) (r : Result Value Exit) → Runs (λ nu. expr_to other left (here_in nu here) e) (λ nu. told_value nu r) old new → IfOk r (λ v. needs v ≤ cells new) → OnOk r (new.heap.left < old.heap.left)
       → cells old ≤ cells new → IfErr r (λ x. exit_needs x ≤ cells new) → Valued table left here e r old new
   valued e r ran exists paid more thrown = record { ran = subst (λ t. Runs (λ nu. expr_to t left (here_in nu here) e) (λ nu. told_value nu r) old new) same ran; more = more; exists = exists; thrown = thrown; paid = paid }

@@ -2,9 +2,8 @@
 ghost use Rattle.std.specs.Prelude.{◌≡◌, ◌<◌, ◌≤◌, IfOk, IfErr};
 ghost use Rattle.js_tree.specs.Rows.{expr_to, stmt_to, expr_row};
 ghost use Rattle.js_tree.specs.Trees.{expr_level};
-ghost use Rattle.js_tree.specs.Expressions.{this_row};
 ghost use Rattle.value_cells.specs.Needs.{needs};
-ghost use Rattle.run_host.specs.Moment.{Moment, cells};
+ghost use Rattle.run_host.specs.Moment.{cells};
 ghost use Rattle.run_host.specs.Told.{told_value, told_flow, here_in, here_needs, exit_needs};
 ghost use Rattle.run_host.specs.Did.{Runs};
 ghost use Rattle.tree_rows.specs.Codes.{table_in};
@@ -14,7 +13,7 @@ use call_rows::calls::call;
 use call_rows::news::new_object;
 use call_rows::prints::print;
 use call_rows::scopes::{fork, once};
-use host_steps::literals::{function, literal, name};
+use host_steps::literals::{function, literal, name, this};
 use js_tree::{Expr, ExprNode, Stmt};
 use operator_rows::asks::{post, prompt, random, reply};
 use operator_rows::operations::{binary, type_name, unary};
@@ -24,18 +23,6 @@ use target_rows::{assignment, update};
 use tree_rows::{Below, Codes};
 use value_cells::Value;
 use value_rows::asks::{crash, join};
-
-/// `this` (11.1.1).
-fn this_value(here: Here) -> Result<Value, Exit>
-    ensures ran { (m : Moment) → Runs (λ nu. this_row (here_in nu here)) (λ nu. told_value nu result) m m }
-    ensures exists { IfOk result (λ v. needs v ≤ here_needs here) }
-    ensures thrown { IfErr result (λ x. exit_needs x ≡ 0) }
-{
-    match here.this {
-        Some(cell) => Ok(Value::Object(cell)),
-        None => Ok(Value::Undefined),
-    }
-}
 
 /// An expression, by its kind.
 pub fn expr_node<
@@ -53,7 +40,7 @@ pub fn expr_node<
     ensures sound { H.is_sound host.new }
 {
     match &e.node {
-        ExprNode::This => this_value(here),
+        ExprNode::This => this(here),
         ExprNode::Name(x) => name(below.alloc, host, here, x),
         ExprNode::Literal(x) => literal(below.alloc, x),
         ExprNode::Array(es) => below.array(codes, host, here, es.as_slice()),

@@ -11,7 +11,7 @@ use Rattle.turk_base.specs.Prog.{Prog, Done, Always}
 use Rattle.value_cells.specs.Seen.{Naming}
 use Rattle.run_host.specs.declared.Flow.{Flow}
 use Rattle.run_host.specs.declared.Flow.TheVariants as flow
-use Rattle.run_host.specs.Moment.{Moment}
+use Rattle.run_host.specs.Moment.{Chain, Moment}
 use Rattle.run_host.specs.Told.{told_flow, flow_in}
 use Rattle.run_host.specs.Did.{Runs}
 use Rattle.run_host.proofs.Exits.{always_done}
@@ -23,5 +23,5 @@ module _ (table : List Code) (expr : Here → Expr → Prog) (stmt : Here → St
   uncaught nu flow.Continue = refl
   uncaught nu (flow.Return v) = refl
 
-  pub catch_passes : {g : Naming → Prog} {a b : Moment} (f : Flow) → Runs g (λ nu. told_flow nu (Ok f)) a b → Runs (λ nu. Always (g nu) (caught table expr stmt (here nu) c)) (λ nu. told_flow nu (Ok f)) a b
+  pub catch_passes : {κ : Chain} {g : Naming → Prog} {a b : Moment κ} (f : Flow) → Runs g (λ nu. told_flow nu (Ok f)) a b → Runs (λ nu. Always (g nu) (caught table expr stmt (here nu) c)) (λ nu. told_flow nu (Ok f)) a b
   catch_passes f x = always_done (λ nu. caught table expr stmt (here nu) c) (λ nu. uncaught nu f) x

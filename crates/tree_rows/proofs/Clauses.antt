@@ -16,7 +16,7 @@ use Rattle.value_cells.specs.Seen.{Naming}
 use Rattle.run_host.specs.declared.Exit.{Exit}
 use Rattle.run_host.specs.declared.Flow.{Flow}
 use Rattle.run_host.specs.declared.Flow.TheVariants as flow
-use Rattle.run_host.specs.Moment.{Moment}
+use Rattle.run_host.specs.Moment.{Chain, Moment}
 use Rattle.run_host.specs.Told.{told_exit, told_flow}
 use Rattle.run_host.specs.Did.{Runs}
 use Rattle.run_host.specs.Steps.{Onward, Gives, Leaves}
@@ -39,19 +39,19 @@ module _ (table : List Code) (expr : Here → Expr → Prog) (stmt : Here → St
   clause_at : (c : Case) → i < length all → c ≡ get_or all i c → (nu : Naming) → clauses_from nu ≡ Then (of_case c nu) (λ _. clauses_after nu)
   clause_at c h e nu = ap (clauses table expr stmt (here nu)) (drop-cons all i c h) ∙ (λ j. Then (of_case (sym e j) nu) (λ _. clauses table expr stmt (here nu) (drop (sym (add-one i) j) all)))
 
-  pub clause_next : (c : Case) (f : Flow) {x y z : Moment} {start : Naming → Prog} → i < length all → c ≡ get_or all i c → f ≡ flow.Normal → Onward start clauses_from x y
+  pub clause_next : {κ : Chain} → (c : Case) (f : Flow) {x y z : Moment κ} {start : Naming → Prog} → i < length all → c ≡ get_or all i c → f ≡ flow.Normal → Onward start clauses_from x y
       → Runs (of_case c) (λ nu. told_flow nu (Ok f)) y z → Onward start clauses_after x z
   clause_next c f h e n rest ran = onward_then rest (onward_then (onward_eq (clause_at c h e)) (record { goes = λ t last r. flow_on (λ nu _. clauses_after nu) f n ran r }))
 
-  pub clause_ends : (c : Case) (f : Flow) {x y z : Moment} {start : Naming → Prog} → i < length all → c ≡ get_or all i c → f ≢ flow.Normal → Onward start clauses_from x y
+  pub clause_ends : {κ : Chain} → (c : Case) (f : Flow) {x y z : Moment κ} {start : Naming → Prog} → i < length all → c ≡ get_or all i c → f ≢ flow.Normal → Onward start clauses_from x y
       → Runs (of_case c) (λ nu. told_flow nu (Ok f)) y z → Runs start (λ nu. told_flow nu (Ok f)) x z
   clause_ends c f {z = z} h e n rest ran = (onward_then rest (onward_eq (clause_at c h e))).goes (λ nu. told_flow nu (Ok f)) z (flow_out (λ nu _. clauses_after nu) f n ran)
 
-  pub clause_out : (c : Case) (e : Exit) {x y z : Moment} {start : Naming → Prog} → i < length all → c ≡ get_or all i c → Onward start clauses_from x y
+  pub clause_out : {κ : Chain} → (c : Case) (e : Exit) {x y z : Moment κ} {start : Naming → Prog} → i < length all → c ≡ get_or all i c → Onward start clauses_from x y
       → Runs (of_case c) (λ nu. told_exit nu e) y z → Runs start (λ nu. told_exit nu e) x z
   clause_out c e {z = z} h q rest ran = (onward_then rest (onward_eq (clause_at c h q))).goes (λ nu. told_exit nu e) z (first_out (λ nu _. clauses_after nu) e ran)
 
-  pub clauses_over : {x y : Moment} {start : Naming → Prog} → length all ≤ i → Onward start clauses_from x y → Runs start (λ nu. told_flow nu (Ok flow.Normal)) x y
+  pub clauses_over : {κ : Chain} {x y : Moment κ} {start : Naming → Prog} → length all ≤ i → Onward start clauses_from x y → Runs start (λ nu. told_flow nu (Ok flow.Normal)) x y
   clauses_over {y = y} h rest = (onward_then rest (onward_eq (λ nu. ap (clauses table expr stmt (here nu)) (drop_of_length-le all h)))).goes (λ nu. told_flow nu (Ok flow.Normal)) y ends_with
 
 -- Tests in order, with the value that is looked for.
@@ -67,23 +67,23 @@ module _ (table : List Code) (expr : Here → Expr → Prog) (stmt : Here → St
   abbrev pub by_test : Case → List Case → Naming → Bool → Prog
   by_test c cs nu b = choose b (clauses table expr stmt (here nu) (c ∷ cs)) (tests_from cs nu)
 
-  pub tests_on : {c : Case} {cs rest : List Case} {x y z : Moment} {start : Naming → Prog} (b : Bool) → rest ≡ c ∷ cs → Onward start (tests_from rest) x y
+  pub tests_on : {κ : Chain} {c : Case} {cs rest : List Case} {x y z : Moment κ} {start : Naming → Prog} (b : Bool) → rest ≡ c ∷ cs → Onward start (tests_from rest) x y
       → Gives (test_of (out-Case c).test) (λ nu. b) y z → Onward start (λ nu. by_test c cs nu b) x z
-  tests_on {c} {cs} {rest} b e so s = onward_then so (onward_then (onward_eq (λ nu. ap (λ l. tests_from l nu) e)) (s.goes (by_test c cs)))
+  tests_on {κ} {c} {cs} {rest} b e so s = onward_then so (onward_then (onward_eq (λ nu. ap (λ l. tests_from l nu) e)) (s.goes (by_test c cs)))
 
-  pub tests_out : {c : Case} {cs rest : List Case} {x y z : Moment} {start : Naming → Prog} (q : Exit) → rest ≡ c ∷ cs → Onward start (tests_from rest) x y
+  pub tests_out : {κ : Chain} {c : Case} {cs rest : List Case} {x y z : Moment κ} {start : Naming → Prog} (q : Exit) → rest ≡ c ∷ cs → Onward start (tests_from rest) x y
       → Leaves (test_of (out-Case c).test) q y z → Runs start (λ nu. told_exit nu q) x z
-  tests_out {c} {cs} {rest} {z = z} q e so s = (onward_then so (onward_eq (λ nu. ap (λ l. tests_from l nu) e))).goes (λ nu. told_exit nu q) z (s.ends (by_test c cs))
+  tests_out {κ} {c} {cs} {rest} {z = z} q e so s = (onward_then so (onward_eq (λ nu. ap (λ l. tests_from l nu) e))).goes (λ nu. told_exit nu q) z (s.ends (by_test c cs))
 
   -- the clause meets it, or the next is tested
-  pub tests_meet : (c : Case) (cs : List Case) {x z : Moment} {start : Naming → Prog} (b : Bool) → b ≡ true → Onward start (λ nu. by_test c cs nu b) x z → Onward start (λ nu. clauses table expr stmt (here nu) (c ∷ cs)) x z
+  pub tests_meet : {κ : Chain} → (c : Case) (cs : List Case) {x z : Moment κ} {start : Naming → Prog} (b : Bool) → b ≡ true → Onward start (λ nu. by_test c cs nu b) x z → Onward start (λ nu. clauses table expr stmt (here nu) (c ∷ cs)) x z
   tests_meet c cs b e so = onward_then so (onward_eq (λ nu. ap (by_test c cs nu) e))
 
-  pub tests_miss : (c : Case) (cs : List Case) {x z : Moment} {start : Naming → Prog} (b : Bool) → b ≡ false → Onward start (λ nu. by_test c cs nu b) x z → Onward start (tests_from cs) x z
+  pub tests_miss : {κ : Chain} → (c : Case) (cs : List Case) {x z : Moment κ} {start : Naming → Prog} (b : Bool) → b ≡ false → Onward start (λ nu. by_test c cs nu b) x z → Onward start (tests_from cs) x z
   tests_miss c cs b e so = onward_then so (onward_eq (λ nu. ap (by_test c cs nu) e))
 
   -- no clause is left
-  pub tests_over : {rest : List Case} {x z : Moment} {start : Naming → Prog} → rest ≡ [] → Onward start (tests_from rest) x z → Onward start (λ nu. default_of table expr stmt (here nu) all) x z
+  pub tests_over : {κ : Chain} {rest : List Case} {x z : Moment κ} {start : Naming → Prog} → rest ≡ [] → Onward start (tests_from rest) x z → Onward start (λ nu. default_of table expr stmt (here nu) all) x z
   tests_over e so = onward_then so (onward_eq (λ nu. ap (λ l. tests_from l nu) e))
 
 -- a list by its first item and the others

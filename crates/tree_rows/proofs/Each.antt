@@ -12,7 +12,7 @@ use Rattle.value_cells.specs.declared.Value.{Value}
 use Rattle.value_cells.specs.Needs.{needs, all_needs}
 use Rattle.value_cells.specs.Seen.{Naming, val_in}
 use Rattle.run_host.specs.declared.Exit.{Exit}
-use Rattle.run_host.specs.Moment.{Moment}
+use Rattle.run_host.specs.Moment.{Chain, Moment}
 use Rattle.run_host.specs.Told.{told_exit, told_value}
 use Rattle.run_host.specs.Did.{Runs}
 use Rattle.run_host.specs.Steps.{Step, Leads, Leaves, Gives}
@@ -25,7 +25,7 @@ needs_more [] v n h k = omega (arith, k)
 needs_more (w ∷ vs) v n h k = let r = needs_more vs v n (omega (arith, h)) k in omega (arith, h, r)
 
 -- none is evaluated yet
-pub each_begin : (expr : Here → Expr → Prog) (here : Naming → Here) (all : List Expr) (vs : List Value) {m : Moment} → vs ≡ [] →
+pub each_begin : {κ : Chain} → (expr : Here → Expr → Prog) (here : Naming → Here) (all : List Expr) (vs : List Value) {m : Moment κ} → vs ≡ [] →
     Leads (λ nu. each expr (here nu) all) (λ nu go. each expr (here nu) all (λ ws. go (map (val_in nu) vs ++ ws))) m m
 each_begin expr here all vs e = leads_eq (λ nu go. ap (λ vs. each expr (here nu) all (λ ws. go (map (val_in nu) vs ++ ws))) (sym e))
 
@@ -48,16 +48,16 @@ module _ (expr : Here → Expr → Prog) (here : Naming → Here) (all : List Ex
   moved : (v : Value) (nu : Naming) (ws : List Val) → map (val_in nu) vs ++ val_in nu v ∷ ws ≡ map (val_in nu) (vs ++ v ∷ []) ++ ws
   moved v nu ws = sym (ap (λ xs. xs ++ ws) (map-append (val_in nu) vs (v ∷ [])) ∙ append_assoc (map (val_in nu) vs) (val_in nu v ∷ []) ws)
 
-  pub each_goes : (e : Expr) (v : Value) {a b c : Moment} {whole : Naming → Step (List Val)} → i < length all → e ≡ get_or all i e → Leads whole each_from a b →
+  pub each_goes : {κ : Chain} → (e : Expr) (v : Value) {a b c : Moment κ} {whole : Naming → Step (List Val)} → i < length all → e ≡ get_or all i e → Leads whole each_from a b →
       Runs (λ nu. expr (here nu) e) (λ nu. told_value nu (Ok v)) b c → Leads whole (each_after v) a c
   unfolding each_next
   each_goes e v h q rest ran = leads_then rest (leads_then (leads_eq (each_at e h q))
       (leads_then (record { goes = λ go. record { goes = λ t last r. then_on (λ nu w. each_next e nu (go nu) w) ran r } })
       (leads_eq (λ nu go j. each expr (here nu) (drop (i + 1) all) (λ ws. go (moved v nu ws j))))))
 
-  pub each_out : (e : Expr) (x : Exit) {a b c : Moment} {whole : Naming → Step (List Val)} → i < length all → e ≡ get_or all i e → Leads whole each_from a b →
+  pub each_out : {κ : Chain} → (e : Expr) (x : Exit) {a b c : Moment κ} {whole : Naming → Step (List Val)} → i < length all → e ≡ get_or all i e → Leads whole each_from a b →
       Runs (λ nu. expr (here nu) e) (λ nu. told_exit nu x) b c → Leaves whole x a c
   each_out e x h q rest ran = leads_out rest (leads_out (leads_eq (each_at e h q)) (record { ends = λ go. first_out (λ nu w. each_next e nu (go nu) w) x ran }))
 
-  pub each_over : {a b : Moment} {whole : Naming → Step (List Val)} → length all ≤ i → Leads whole each_from a b → Gives whole (λ nu. map (val_in nu) vs) a b
+  pub each_over : {κ : Chain} {a b : Moment κ} {whole : Naming → Step (List Val)} → length all ≤ i → Leads whole each_from a b → Gives whole (λ nu. map (val_in nu) vs) a b
   each_over h rest = leads_then rest (leads_eq (λ nu go. ap (λ es. each expr (here nu) es (λ ws. go (map (val_in nu) vs ++ ws))) (drop_of_length-le all h) ∙ ap go (append-nil (map (val_in nu) vs))))

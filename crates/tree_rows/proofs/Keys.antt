@@ -19,7 +19,7 @@ use Rattle.value_cells.specs.Seen.{Naming, val_in}
 use Rattle.run_host.specs.declared.Exit.{Exit}
 use Rattle.run_host.specs.declared.Flow.{Flow}
 use Rattle.run_host.specs.declared.Flow.TheVariants as flow
-use Rattle.run_host.specs.Moment.{Moment}
+use Rattle.run_host.specs.Moment.{Chain, Moment}
 use Rattle.run_host.specs.Told.{told_exit, told_flow}
 use Rattle.run_host.specs.Did.{Runs}
 use Rattle.run_host.specs.Steps.{Onward}
@@ -42,19 +42,19 @@ module _ (table : List Code) (expr : Here → Expr → Prog) (stmt : Here → St
   key_at : (k : Units) → i < length all → k ≡ get_or all i k → (nu : Naming) → keys_from nu ≡ Then (of_key k nu) (λ _. keys_after nu)
   key_at k h e nu = ap (key_turns table expr stmt (here nu) into s (nu cell)) (drop-cons all i k h) ∙ (λ j. Then (of_key (sym e j) nu) (λ _. key_turns table expr stmt (here nu) into s (nu cell) (drop (sym (add-one i) j) all)))
 
-  pub key_next : (k : Units) (f : Flow) {x y z : Moment} {start : Naming → Prog} → i < length all → k ≡ get_or all i k → f ≡ flow.Normal → Onward start keys_from x y
+  pub key_next : {κ : Chain} → (k : Units) (f : Flow) {x y z : Moment κ} {start : Naming → Prog} → i < length all → k ≡ get_or all i k → f ≡ flow.Normal → Onward start keys_from x y
       → Runs (of_key k) (λ nu. told_flow nu (Ok f)) y z → Onward start keys_after x z
   key_next k f h e n rest ran = onward_then rest (onward_then (onward_eq (key_at k h e)) (record { goes = λ t last r. flow_on (λ nu _. keys_after nu) f n ran r }))
 
-  pub key_ends : (k : Units) (f : Flow) {x y z : Moment} {start : Naming → Prog} → i < length all → k ≡ get_or all i k → f ≢ flow.Normal → Onward start keys_from x y
+  pub key_ends : {κ : Chain} → (k : Units) (f : Flow) {x y z : Moment κ} {start : Naming → Prog} → i < length all → k ≡ get_or all i k → f ≢ flow.Normal → Onward start keys_from x y
       → Runs (of_key k) (λ nu. told_flow nu (Ok f)) y z → Runs start (λ nu. told_flow nu (Ok f)) x z
   key_ends k f {z = z} h e n rest ran = (onward_then rest (onward_eq (key_at k h e))).goes (λ nu. told_flow nu (Ok f)) z (flow_out (λ nu _. keys_after nu) f n ran)
 
-  pub key_out : (k : Units) (e : Exit) {x y z : Moment} {start : Naming → Prog} → i < length all → k ≡ get_or all i k → Onward start keys_from x y
+  pub key_out : {κ : Chain} → (k : Units) (e : Exit) {x y z : Moment κ} {start : Naming → Prog} → i < length all → k ≡ get_or all i k → Onward start keys_from x y
       → Runs (of_key k) (λ nu. told_exit nu e) y z → Runs start (λ nu. told_exit nu e) x z
   key_out k e {z = z} h q rest ran = (onward_then rest (onward_eq (key_at k h q))).goes (λ nu. told_exit nu e) z (first_out (λ nu _. keys_after nu) e ran)
 
-  pub keys_over : {x y : Moment} {start : Naming → Prog} → length all ≤ i → Onward start keys_from x y → Runs start (λ nu. told_flow nu (Ok flow.Normal)) x y
+  pub keys_over : {κ : Chain} {x y : Moment κ} {start : Naming → Prog} → length all ≤ i → Onward start keys_from x y → Runs start (λ nu. told_flow nu (Ok flow.Normal)) x y
   keys_over {y = y} h rest = (onward_then rest (onward_eq (λ nu. ap (key_turns table expr stmt (here nu) into s (nu cell)) (drop_of_length-le all h)))).goes (λ nu. told_flow nu (Ok flow.Normal)) y ends_with
 
 -- the turn of a key that was found, and of one that was not

@@ -11,14 +11,14 @@ use Rattle.value_cells.specs.Needs.{needs}
 use Rattle.run_host.specs.declared.Exit.{Exit}
 use Rattle.run_host.specs.declared.Flow.{Flow}
 use Rattle.run_host.specs.declared.Here.{Here}
-use Rattle.run_host.specs.Moment.{Moment, cells}
+use Rattle.run_host.specs.Moment.{Chain, Moment, cells}
 use Rattle.run_host.specs.Told.{told_value, told_flow, here_in, here_needs, flow_needs, exit_needs}
 use Rattle.run_host.specs.Did.{Runs}
 use Rattle.tree_rows.specs.declared.codes.Codes.{Codes}
 use Rattle.tree_rows.specs.Codes.{table_in}
 
 -- what a node leaves that was run as an expression
-pub record Valued (table : List Code) (left : ℕ) (here : Here) (e : Expr) (r : Result Value Exit) (old new : Moment) : Type 0 where
+pub record Valued {κ : Chain} (table : List Code) (left : ℕ) (here : Here) (e : Expr) (r : Result Value Exit) (old new : Moment κ) : Type 0 where
   pub ran : Runs (λ nu. expr_to table left (here_in nu here) e) (λ nu. told_value nu r) old new
   pub more : cells old ≤ cells new
   pub exists : IfOk r (λ v. needs v ≤ cells new)
@@ -26,14 +26,14 @@ pub record Valued (table : List Code) (left : ℕ) (here : Here) (e : Expr) (r :
   pub paid : OnOk r (new.heap.left < old.heap.left)
 
 -- and as a statement
-pub record Flowed (table : List Code) (left : ℕ) (here : Here) (s : Stmt) (r : Result Flow Exit) (old new : Moment) : Type 0 where
+pub record Flowed {κ : Chain} (table : List Code) (left : ℕ) (here : Here) (s : Stmt) (r : Result Flow Exit) (old new : Moment κ) : Type 0 where
   pub ran : Runs (λ nu. stmt_to table left (here_in nu here) s) (λ nu. told_flow nu r) old new
   pub more : cells old ≤ cells new
   pub exists : IfOk r (λ f. flow_needs f ≤ cells new)
   pub thrown : IfErr r (λ x. exit_needs x ≤ cells new)
   pub paid : OnOk r (new.heap.left < old.heap.left)
 
-module _ (H : Type 0) (moment : H → Moment) (sound : H → Type 0) (table : List Code) (left : ℕ) where
+module _ {κ : Chain} (H : Type 0) (moment : H → Moment κ) (sound : H → Type 0) (table : List Code) (left : ℕ) where
   -- functions that run the nodes below, with so many more nodes open at most
   pub record Nests
       (pre : Global → Bor Codes → ℕ → MutBor H → Here → Bor Expr → Type 0)

@@ -64,7 +64,7 @@ impl<
         requires sound { H.is_sound host.old }
         requires here { here_needs here ≤ cells (H.moment host.old) }
         requires thrown { exit_needs exit ≤ cells (H.moment host.old) }
-        ensures ran { (g : Naming → Prog) (first : Moment) → Runs g (λ nu. told_exit nu exit) first (H.moment host.old) → Runs (λ nu. Always (g nu) (caught (table_in codes.now) (expr_to (table_in codes.now) self.now.left) (stmt_to (table_in codes.now) self.now.left) (here_in nu here) c.now)) (λ nu. told_flow nu result) first (H.moment host.new) }
+        ensures ran { (g : Naming → Prog) (first : Moment H.chain) → Runs g (λ nu. told_exit nu exit) first (H.moment host.old) → Runs (λ nu. Always (g nu) (caught (table_in codes.now) (expr_to (table_in codes.now) self.now.left) (stmt_to (table_in codes.now) self.now.left) (here_in nu here) c.now)) (λ nu. told_flow nu result) first (H.moment host.new) }
         ensures exists { IfOk result (λ f. flow_needs f ≤ cells (H.moment host.new)) }
         ensures more { cells (H.moment host.old) ≤ cells (H.moment host.new) }
         ensures thrown { IfErr result (λ x. exit_needs x ≤ cells (H.moment host.new)) }
@@ -143,7 +143,7 @@ impl<
         requires sound { H.is_sound host.old }
         requires here { here_needs here ≤ cells (H.moment host.old) }
         requires thrown { exit_needs exit ≤ cells (H.moment host.old) }
-        ensures ran { (g : Naming → Prog) (first : Moment) → Runs g (λ nu. told_exit nu exit) first (H.moment host.old) → Runs (λ nu. Always (g nu) (λ o. Then (stmt_to (table_in codes.now) self.now.left (here_in nu here) f.now) (λ _. Done o))) (λ nu. told_flow nu result) first (H.moment host.new) }
+        ensures ran { (g : Naming → Prog) (first : Moment H.chain) → Runs g (λ nu. told_exit nu exit) first (H.moment host.old) → Runs (λ nu. Always (g nu) (λ o. Then (stmt_to (table_in codes.now) self.now.left (here_in nu here) f.now) (λ _. Done o))) (λ nu. told_flow nu result) first (H.moment host.new) }
         ensures exists { IfOk result (λ f. flow_needs f ≤ cells (H.moment host.new)) }
         ensures more { cells (H.moment host.old) ≤ cells (H.moment host.new) }
         ensures thrown { IfErr result (λ x. exit_needs x ≤ cells (H.moment host.new)) }

@@ -19,7 +19,7 @@ use Rattle.run_host.specs.declared.Exit.{Exit}
 use Rattle.run_host.specs.declared.Exit.TheVariants as exit
 use Rattle.run_host.specs.declared.Halt.TheVariants as halt
 use Rattle.run_host.specs.declared.Refusal.{Refusal}
-use Rattle.run_host.specs.Moment.{Moment}
+use Rattle.run_host.specs.Moment.{Chain, Moment}
 use Rattle.run_host.specs.Told.{told_exit, told_value, refusal_in}
 use Rattle.run_host.specs.Did.{Runs}
 use Rattle.run_host.specs.Steps.{Gives, Leaves}
@@ -29,17 +29,17 @@ use Rattle.host_steps.specs.Answered.{answer_of}
 use Rattle.value_rows.specs.Kinds.{cell_in}
 use Rattle.value_rows.specs.Pairs.{pair_then}
 
-fits_given : {A B : Type 0} {m : Moment} (f : Naming → Result A model.Refusal) (h : Naming → B → A) (b : B) → ((nu : Naming) → Fits nu m.heap.names → f nu ≡ Ok (h nu b)) → Gives (λ nu. given (f nu)) (λ nu. h nu b) m m
+fits_given : {κ : Chain} {A B : Type 0} {m : Moment κ} (f : Naming → Result A model.Refusal) (h : Naming → B → A) (b : B) → ((nu : Naming) → Fits nu m.heap.names → f nu ≡ Ok (h nu b)) → Gives (λ nu. given (f nu)) (λ nu. h nu b) m m
 fits_given f h b e = leads_fits (λ nu l go. ap (λ x. given x go) (e nu l))
 
-fits_refused : {A : Type 0} {m : Moment} (f : Naming → Result A model.Refusal) (why : Refusal) → ((nu : Naming) → Fits nu m.heap.names → f nu ≡ Err (refusal_in why)) → Leaves (λ nu. given (f nu)) (exit.Halted (halt.Refused why)) m m
+fits_refused : {κ : Chain} {A : Type 0} {m : Moment κ} (f : Naming → Result A model.Refusal) (why : Refusal) → ((nu : Naming) → Fits nu m.heap.names → f nu ≡ Err (refusal_in why)) → Leaves (λ nu. given (f nu)) (exit.Halted (halt.Refused why)) m m
 fits_refused {m = m} f why e = record { ends = λ go. (onward_fits (λ nu l. ap (λ x. given x (go nu)) (e nu l))).goes (λ nu. told_exit nu (exit.Halted (halt.Refused why))) m (refused why) }
 
-pub answered_ok : {m : Moment} (f : Naming → Result Val model.Refusal) (v : Value) → ((nu : Naming) → Fits nu m.heap.names → f nu ≡ Ok (val_in nu v)) → Runs (λ nu. given (f nu) (λ v. value v)) (λ nu. told_value nu (Ok v)) m m
+pub answered_ok : {κ : Chain} {m : Moment κ} (f : Naming → Result Val model.Refusal) (v : Value) → ((nu : Naming) → Fits nu m.heap.names → f nu ≡ Ok (val_in nu v)) → Runs (λ nu. given (f nu) (λ v. value v)) (λ nu. told_value nu (Ok v)) m m
 answered_ok f v e = runs_on (λ nu v. value v) (fits_given f val_in v e) ends_with
 
-pub answered_err : {m : Moment} (f : Naming → Result Val model.Refusal) (why : Refusal) (x : Exit) → x ≡ exit.Halted (halt.Refused why) → ((nu : Naming) → Fits nu m.heap.names → f nu ≡ Err (refusal_in why)) → Runs (λ nu. given (f nu) (λ v. value v)) (λ nu. told_value nu (Err x)) m m
-answered_err {m} f why x is e = subst (λ x. Runs (λ nu. given (f nu) (λ v. value v)) (λ nu. told_exit nu x) m m) (sym is) (runs_left (λ nu v. value v) (fits_refused f why e))
+pub answered_err : {κ : Chain} {m : Moment κ} (f : Naming → Result Val model.Refusal) (why : Refusal) (x : Exit) → x ≡ exit.Halted (halt.Refused why) → ((nu : Naming) → Fits nu m.heap.names → f nu ≡ Err (refusal_in why)) → Runs (λ nu. given (f nu) (λ v. value v)) (λ nu. told_value nu (Err x)) m m
+answered_err {κ} {m} f why x is e = subst (λ x. Runs (λ nu. given (f nu) (λ v. value v)) (λ nu. told_exit nu x) m m) (sym is) (runs_left (λ nu v. value v) (fits_refused f why e))
 
 -- ---- a refusal that is handed on
 
@@ -127,8 +127,8 @@ on_chain_none (Some (code.Object j)) e nu c = cc
 
 -- ---- a property under a key that is another's equal
 
-pub get_under : {at : Naming → Name} {key : Units} {v : Naming → Option Val} {s t : Moment} (k : Units) → key ≡ k → Gives (λ nu. ask (Get (at nu) key)) v s t → Gives (λ nu. ask (Get (at nu) k)) v s t
-get_under {at} {key} {v} {s} {t} k e x = subst (λ k. Gives (λ nu. ask (Get (at nu) k)) v s t) e x
+pub get_under : {κ : Chain} {at : Naming → Name} {key : Units} {v : Naming → Option Val} {s t : Moment κ} (k : Units) → key ≡ k → Gives (λ nu. ask (Get (at nu) key)) v s t → Gives (λ nu. ask (Get (at nu) k)) v s t
+get_under {κ} {at} {key} {v} {s} {t} k e x = subst (λ k. Gives (λ nu. ask (Get (at nu) k)) v s t) e x
 
-pub get_out_under : {at : Naming → Name} {key : Units} {s t : Moment} {y : Exit} (k : Units) → key ≡ k → Leaves (λ nu. ask (Get (at nu) key)) y s t → Leaves (λ nu. ask (Get (at nu) k)) y s t
-get_out_under {at} {key} {s} {t} {y} k e x = subst (λ k. Leaves (λ nu. ask (Get (at nu) k)) y s t) e x
+pub get_out_under : {κ : Chain} {at : Naming → Name} {key : Units} {s t : Moment κ} {y : Exit} (k : Units) → key ≡ k → Leaves (λ nu. ask (Get (at nu) key)) y s t → Leaves (λ nu. ask (Get (at nu) k)) y s t
+get_out_under {κ} {at} {key} {s} {t} {y} k e x = subst (λ k. Leaves (λ nu. ask (Get (at nu) k)) y s t) e x

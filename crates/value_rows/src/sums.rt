@@ -12,7 +12,7 @@ ghost use Rattle.js_tree.specs.Operate as operate;
 ghost use Rattle.js_tree.specs.Pieces.{as_function, if_function};
 ghost use Rattle.value_cells.specs.Needs.{needs, option_needs, number_needs};
 ghost use Rattle.value_cells.specs.Seen.{Naming, Fits, val_in, kind_in};
-ghost use Rattle.run_host.specs.Moment.{Moment, cells};
+ghost use Rattle.run_host.specs.Moment.{Moment, alone, cells};
 ghost use Rattle.run_host.specs.Told.{told_value, exit_needs};
 ghost use Rattle.run_host.specs.Did.{Runs};
 ghost use Rattle.run_host.specs.Steps.{Gives, Onward};
@@ -81,7 +81,7 @@ fn sum(x: &Value, y: &Value) -> Result<Value, Refusal>
 
 /// What was computed of values alone, as the end of a row.
 pub fn answered(answer: Result<Value, Refusal>) -> Result<Value, Exit>
-    ensures ran { (m : Moment) (f : Naming → Result Val model.Refusal) → ((nu : Naming) → Fits nu m.heap.names → f nu ≡ answer_of (val_in nu) answer) → Runs (λ nu. given (f nu) (λ v. value v)) (λ nu. told_value nu result) m m }
+    ensures ran { (m : Moment alone) (f : Naming → Result Val model.Refusal) → ((nu : Naming) → Fits nu m.heap.names → f nu ≡ answer_of (val_in nu) answer) → Runs (λ nu. given (f nu) (λ v. value v)) (λ nu. told_value nu result) m m }
     ensures exists { (n : ℕ) → IfOk answer (λ v. needs v ≡ 0) → IfOk result (λ v. needs v ≤ n) }
     ensures thrown { (n : ℕ) → IfErr result (λ x. exit_needs x ≤ n) }
 {

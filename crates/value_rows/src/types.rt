@@ -6,7 +6,7 @@ ghost use Rattle.js_tree.specs.Pieces as pieces;
 ghost use Rattle.js_tree.specs.Operate as operate;
 ghost use Rattle.value_cells.specs.Needs.{needs};
 ghost use Rattle.value_cells.specs.Seen.{val_in};
-ghost use Rattle.run_host.specs.Moment.{Moment, cells};
+ghost use Rattle.run_host.specs.Moment.{Moment, alone, cells};
 ghost use Rattle.run_host.specs.Told.{told_value, here_in, here_needs, exit_needs};
 ghost use Rattle.run_host.specs.Did.{Runs};
 ghost use Rattle.host_steps.specs.Places.{place_in, place_needs};
@@ -21,7 +21,7 @@ use value_cells::{CellKind, Value};
 
 /// A word as a value; it costs nothing.
 fn word(alloc: Global, bytes: &[u8]) -> Result<Value, Exit>
-    ensures ran { (m : Moment) → Runs (λ nu. value (Text bytes.now)) (λ nu. told_value nu result) m m }
+    ensures ran { (m : Moment alone) → Runs (λ nu. value (Text bytes.now)) (λ nu. told_value nu result) m m }
     ensures exists { IfOk result (λ v. needs v ≡ 0) }
     ensures thrown { IfErr result (λ x. exit_needs x ≡ 0) }
 {

@@ -12,7 +12,7 @@ pub returns-in_default-clause-did : goal.returns-in_default-clause-did
 returns-in_default-clause-did g c = leaves_lost
 
 pub returns-in-Err-clause-did : goal.returns-in-Err-clause-did
-returns-in-Err-clause-did g c = lost_leaves _ _ (record { session = refl; trace = refl; pairs = refl; grows = λ i n e. e }) refl
+returns-in-Err-clause-did g c = lost_leaves _ _ (record { later = tt; session = refl; trace = refl; pairs = refl; grows = λ i n e. e }) refl refl
 
 pub returns-in-Ok-note-clause-did : goal.returns-in-Ok-note-clause-did
 returns-in-Ok-note-clause-did g c =

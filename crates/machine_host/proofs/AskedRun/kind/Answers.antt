@@ -1,6 +1,6 @@
 use Rattle.turk_base.specs.Prog.{KindOf, ask}
 use Rattle.turk_base.specs.Steps.{steps_of}
-use Rattle.value_cells.specs.Seen.{Naming, kind_in}
+use Rattle.value_cells.specs.Seen.{Naming}
 use Rattle.machine_host.specs.Runs.{moment_of}
 use Rattle.machine_host.proofs.Turns.{asks_of}
 use Rattle.machine_host.proofs.Answered.{looked}

@@ -6,6 +6,7 @@ use Rattle.run_host.specs.Told.{exit_needs}
 use Rattle.machine_host.specs.declared.guarded.Guarded.{Guarded}
 use Rattle.machine_host.proofs.Opening.{not_here}
 use Rattle.machine_host.proofs.Counted.{found_within, kept_sound, once_found, once_entered, once_not_entered, once_exit}
+use Rattle.machine_host.proofs.Goings.{later_still, later_found, later_passed}
 use Rattle.machine_host.proofs.AskedRun.open_once.Goals as goal
 
 pub returns-in_err-path-clause-out : goal.returns-in_err-path-clause-out
@@ -43,6 +44,7 @@ returns-in-Ok-enter g c = record {
   exists = omega arith;
   thrown = tt;
   sound = c.in-Ok-enter.ensures.sound;
+  later = later_passed g.A.Asker.seen g.A.Asker.fits g.A.Asker.keeps g.A.Asker.tells_tasks g.A.Asker.tells_traces g.A.Asker.moment g.A.Asker.left_since g.met.A.Asker.keeps_refl g.met.A.Asker.keeps_trans c.args.self.now c.count_once.new.self _ c.enter.new.self c.in_ok-path.path c.in_ok-path.ensures.still c.known.ensures.keeps c.known.ensures.asked c.known.ensures.moment c.known.ensures.traces c.in_ok-path.ensures.open refl c.in-Ok-enter.ensures.still;
 }
 
 pub returns : goal.returns
@@ -55,4 +57,14 @@ returns g c = record {
   exists = tt;
   thrown = subst (λ y. exit_needs y ≡ 0) (sym c.in-Err-enter.ensures.lost) refl;
   sound = c.in-Err-enter.ensures.sound;
+  later = later_passed g.A.Asker.seen g.A.Asker.fits g.A.Asker.keeps g.A.Asker.tells_tasks g.A.Asker.tells_traces g.A.Asker.moment g.A.Asker.left_since g.met.A.Asker.keeps_refl g.met.A.Asker.keeps_trans c.args.self.now c.count_once.new.self _ c.enter.new.self c.in_ok-path.path c.in_ok-path.ensures.still c.known.ensures.keeps c.known.ensures.asked c.known.ensures.moment c.known.ensures.traces c.in_ok-path.ensures.open refl c.in-Err-enter.ensures.still;
 }
+
+pub returns-in_err-path-clause-later : goal.returns-in_err-path-clause-later
+returns-in_err-path-clause-later g c = later_still g.A.Asker.seen g.A.Asker.fits g.A.Asker.keeps g.A.Asker.tells_tasks g.A.Asker.tells_traces g.A.Asker.moment g.A.Asker.left_since g.met.A.Asker.keeps_refl c.args.self.now c.count_once.new.self c.in_err-path.ensures.still
+
+pub returns-in-Ok-clause-later : goal.returns-in-Ok-clause-later
+returns-in-Ok-clause-later g c = later_found g.A.Asker.seen g.A.Asker.fits g.A.Asker.keeps g.A.Asker.tells_tasks g.A.Asker.tells_traces g.A.Asker.moment g.A.Asker.left_since g.met.A.Asker.keeps_refl g.met.A.Asker.keeps_trans c.args.self.now c.count_once.new.self _ c.in_ok-path.path c.in_ok-path.ensures.still c.in-Here.ensures.keeps c.in-Here.ensures.asked c.in-Here.ensures.moment c.in-Here.ensures.traces c.in_ok-path.ensures.open refl
+
+pub returns-in-Some-clause-later : goal.returns-in-Some-clause-later
+returns-in-Some-clause-later g c = later_found g.A.Asker.seen g.A.Asker.fits g.A.Asker.keeps g.A.Asker.tells_tasks g.A.Asker.tells_traces g.A.Asker.moment g.A.Asker.left_since g.met.A.Asker.keeps_refl g.met.A.Asker.keeps_trans c.args.self.now c.count_once.new.self _ c.in_ok-path.path c.in_ok-path.ensures.still c.in-Here.ensures.keeps c.in-Here.ensures.asked c.in-Here.ensures.moment c.in-Here.ensures.traces c.in_ok-path.ensures.open refl

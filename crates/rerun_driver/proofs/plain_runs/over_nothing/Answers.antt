@@ -18,6 +18,6 @@ returns g c =
     let draws = ap (λ t. t.draws.now) c.new-asker.ensures.asker ∙ c.in-Ok.ensures.draws in
     let none : before.trace.items ≡ [] = ap (λ s. s.trace) seen ∙ c.new.ensures.items in
     let told = subst (λ n. IsTold c.run-answer.result.answer n result) (c.made.ensures ∙ c.run-answer.ensures.sound.1) c.told.ensures in
-    let comes = comes_to S name (rest before.draws.now) fuel _ _ none c.run-answer.ensures.asks c.run-answer.ensures.sound.0 c.run-answer.result.answer c.run-answer.ensures.told c.run-answer.ensures.stopped result told in
+    let comes = comes_to S name (rest before.draws.now) fuel _ _ _ none c.run-answer.ensures.asks c.run-answer.ensures.sound.0 c.run-answer.result.answer c.run-answer.ensures.told c.run-answer.ensures.stopped result told in
     let pairs = subst (λ R. IsRunOf S (plain_world name R (rest before.draws.now)) fuel result) (ap (λ s. s.replies) seen) comes in
     subst (λ w. IsRunOf S (plain_world name c.args.replies.now (rest w)) fuel result) draws pairs

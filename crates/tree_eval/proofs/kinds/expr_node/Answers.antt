@@ -1,3 +1,5 @@
+use Rattle.run_host.specs.Moment.{apart}
+use Rattle.run_host.proofs.Along.{anywhere}
 use Rattle.host_steps.proofs.Made.{runs_as}
 use Rattle.js_tree.specs.Expressions.{and_row, array_row, assign_row, binary_row, call_row, comma_row, conditional_row, delete_row, function_row, member_row, new_row, object_row, or_row, typeof_row, unary_row, update_row, void_row}
 use Rattle.js_tree.specs.Rows.{expr_row, expr_to, stmt_to}
@@ -13,7 +15,7 @@ use Rattle.tree_eval.proofs.kinds.expr_node.Goals as goal
 pub returns-in-This-clause-ran : goal.returns-in-This-clause-ran
 unfolding expr_row
 returns-in-This-clause-ran g c = let table = table_in c.args.codes.now in
-    runs_as (λ nu. ap (expr_row table (expr_to table c.args.below.now.left) (stmt_to table c.args.below.now.left) (here_in nu c.args.here)) (ap out-ExprNode (c.in-This.is ∙ sym node.rolls-This) ∙ out-roll-ExprNode ExprNode-F.This)) (c.this_value.ensures.ran (g.H.Host.moment c.args.host.now))
+    runs_as (λ nu. ap (expr_row table (expr_to table c.args.below.now.left) (stmt_to table c.args.below.now.left) (here_in nu c.args.here)) (ap out-ExprNode (c.in-This.is ∙ sym node.rolls-This) ∙ out-roll-ExprNode ExprNode-F.This)) (anywhere (g.H.Host.moment c.args.host.now) (c.this.ensures.ran (apart (g.H.Host.moment c.args.host.now))))
 
 pub returns-in-Name-clause-ran : goal.returns-in-Name-clause-ran
 unfolding expr_row
@@ -23,7 +25,7 @@ returns-in-Name-clause-ran g c = let table = table_in c.args.codes.now in
 pub returns-in-Literal-clause-ran : goal.returns-in-Literal-clause-ran
 unfolding expr_row
 returns-in-Literal-clause-ran g c = let table = table_in c.args.codes.now in
-    runs_as (λ nu. ap (expr_row table (expr_to table c.args.below.now.left) (stmt_to table c.args.below.now.left) (here_in nu c.args.here)) (ap out-ExprNode (c.in-Literal.is ∙ sym (node.rolls-Literal c.in-Literal.x)) ∙ out-roll-ExprNode (ExprNode-F.Literal c.in-Literal.x))) (c.literal.ensures.ran (g.H.Host.moment c.args.host.now))
+    runs_as (λ nu. ap (expr_row table (expr_to table c.args.below.now.left) (stmt_to table c.args.below.now.left) (here_in nu c.args.here)) (ap out-ExprNode (c.in-Literal.is ∙ sym (node.rolls-Literal c.in-Literal.x)) ∙ out-roll-ExprNode (ExprNode-F.Literal c.in-Literal.x))) (anywhere (g.H.Host.moment c.args.host.now) (c.literal.ensures.ran (apart (g.H.Host.moment c.args.host.now))))
 
 pub returns-in-Array-clause-ran : goal.returns-in-Array-clause-ran
 unfolding expr_row

@@ -1,3 +1,5 @@
+use Rattle.run_host.specs.Moment.{apart}
+use Rattle.run_host.proofs.Along.{anywhere}
 use Rattle.std.proofs.Common.{ap, ◌∙◌, ◌||◌, Bool}
 use Rattle.turk_base.specs.Conversions.{text_in}
 use Rattle.turk_base.specs.Operators.{numeric, total}
@@ -38,4 +40,4 @@ returns-else-has_text-clause-ran g c = let x = c.args.x.now in let y = c.args.y.
     runs_as (λ nu. c.in_ok-primitive.ensures nu (given (text_in (val_in nu y)) (λ _. whole (val_in nu x) (val_in nu y)))
     ∙ c.in_ok-primitive-2.ensures nu (whole (val_in nu x) (val_in nu y))
     ∙ ap (chosen (val_in nu x) (val_in nu y)) (c.has_text.ensures nu ∙ c.if-has_text.false))
-    (c.answered.ensures.ran (g.H.Host.moment c.args.host.now) (λ nu. numeric total (val_in nu x) (val_in nu y)) (λ nu l. c.sum.ensures.value nu))
+    (anywhere (g.H.Host.moment c.args.host.now) (c.answered.ensures.ran (apart (g.H.Host.moment c.args.host.now)) (λ nu. numeric total (val_in nu x) (val_in nu y)) (λ nu l. c.sum.ensures.value nu)))
