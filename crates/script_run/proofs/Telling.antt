@@ -67,10 +67,10 @@ told_cause seen fits refuses after h0 h1 by quiet ends None is h = h
 told_cause {A} seen fits refuses after h0 h1 by quiet ends (Some why) is h = elim (by why is) [
   | inl before ↦ absurd (quiet_still (sym quiet ∙ before))
   | inr c ↦ record {
-      refused = h;
-      unfit = λ full. subst (λ (a : A). (e : Entry) × IsRecordOf (seen a).replies h1.notes.unmade e × (fits a e ≡ false)) (sym ends) (c.unfit full);
-      held = c.held;
-    }
+    refused = h;
+    unfit = λ full. subst (λ (a : A). (e : Entry) × IsRecordOf (seen a).replies h1.notes.unmade e × (fits a e ≡ false)) (sym ends) (c.unfit full);
+    held = c.held;
+  }
 ]
   where
     quiet_still : None ≡ Some why → ⊥
