@@ -17,7 +17,8 @@ impl Machine {
     /// alone.
     pub fn bare(alloc: Global, fuel: u64) -> Result<Machine, NoMemory>
         requires { fuel ≤ 20000000 }
-        ensures { IfOk result (λ m. IsBare fuel (seen_of m)) }
+        ensures bare { IfOk result (λ m. IsBare fuel (seen_of m)) }
+        ensures noted { IfOk result (λ m. m.left_back ≡ None) }
     {
         let heap = RunHeap::new(alloc, fuel)?;
         Ok(Machine {
@@ -38,6 +39,7 @@ impl Machine {
         requires { fuel ≤ 20000000 }
         ensures did { IfOk result (λ m. Does (λ nu. Make (Frame None)) (λ nu. Says (nu 7)) (at_start fuel) (seen_of m)) }
         ensures outer { IfOk result (λ m. m.outer ≡ []) }
+        ensures noted { IfOk result (λ m. m.left_back ≡ None) }
         ensures count { IfOk result (λ m. 7 < count m) }
         ensures err { IfErr result (λ e. (e ≡ OpStop.Memory) ⊎ ((e ≡ OpStop.Spent) × (fuel ≡ 0))) }
     {

@@ -1,5 +1,5 @@
 //! The branches of the scope that runs: those that are absent, the values of the others, and joining.
-ghost use Rattle.std.specs.Prelude.{◌≡◌, ◌<◌, ◌≤◌, true, false, length, IfOk, IfErr, OnOk, OnErr, map, reverse};
+ghost use Rattle.std.specs.Prelude.{◌≡◌, ◌<◌, ◌≤◌, true, false, None, length, IfOk, IfErr, OnOk, OnErr, map, reverse};
 ghost use Rattle.std.specs.Option.{option_map};
 ghost use Rattle.turk_base.specs.Names.{path_in};
 ghost use Rattle.turk_base.specs.State.{any_gone, give_value};
@@ -39,7 +39,8 @@ impl Machine {
     /// Notes that the branch that was taken back last is absent in the scope that runs. Where none
     /// was taken back since a scope was entered or left, nothing changes. It takes no memory.
     pub fn absent(&mut self)
-        ensures { Changes (λ nu σ. notes self.old.left_back σ) (seen_of self.old) (seen_of self.new) }
+        ensures did { Changes (λ nu σ. notes self.old.left_back σ) (seen_of self.old) (seen_of self.new) }
+        ensures noted { self.new.left_back ≡ None }
     {
         let Some(path) = mem::replace(&mut self.left_back, None) else {
             return;
@@ -59,6 +60,7 @@ impl Machine {
     pub fn give(&mut self, value: Value) -> Result<(), OpStop>
         requires { needs value ≤ count self.old }
         ensures ok { OnOk result (Changes (λ nu σ. give_value (val_in nu value) σ) (seen_of self.old) (seen_of self.new)) }
+        ensures noted { self.new.left_back ≡ self.old.left_back }
         ensures err { IfErr result (λ e. e ≡ OpStop.Memory) }
         ensures same { OnErr result (self.new ≡ self.old) }
     {
@@ -77,6 +79,7 @@ impl Machine {
         ensures more { count self.old ≤ count self.new }
         ensures exists { IfOk result (λ v. option_needs v ≤ count self.new) }
         ensures gone { self.new.gone ≡ self.old.gone }
+        ensures noted { self.new.left_back ≡ self.old.left_back }
     {
         if any_absent(self.heap.path(), &self.gone) {
             return Ok(None);

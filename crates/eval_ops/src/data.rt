@@ -25,6 +25,7 @@ impl Machine {
         ensures more { count self.old ≤ count self.new }
         ensures exists { IfOk result (λ v. needs v ≤ count self.new) }
         ensures gone { self.new.gone ≡ self.old.gone }
+        ensures noted { self.new.left_back ≡ self.old.left_back }
     {
         run_data::put_data(self.alloc, &mut self.heap, from)
     }
@@ -38,6 +39,7 @@ impl Machine {
         ensures did { Performs (λ nu. taking (val_in nu value.now)) (λ nu. told_taken (λ d. d) result) (seen_of self.old) (seen_of self.new) }
         ensures cells { self.new.heap.cells ≡ self.old.heap.cells }
         ensures gone { self.new.gone ≡ self.old.gone }
+        ensures noted { self.new.left_back ≡ self.old.left_back }
     {
         run_data::take(self.alloc, &mut self.heap, value)
     }

@@ -20,6 +20,7 @@ impl Heap for Machine {
         ensures more { count (seen_of self.old) ≤ count (seen_of self.new) }
         ensures exists { IfOk result (λ v. option_needs v ≤ count (seen_of self.new)) }
         ensures gone { self.new.gone ≡ self.old.gone }
+        ensures noted { self.new.left_back ≡ self.old.left_back }
     {
         self.heap.get(cell, key)
     }
@@ -30,6 +31,7 @@ impl Heap for Machine {
         ensures did { Does (λ nu. Put (nu cell) key.now (val_in nu value)) (λ nu. told (λ u. u) result) (seen_of self.old) (seen_of self.new) }
         ensures more { count (seen_of self.old) ≤ count (seen_of self.new) }
         ensures gone { self.new.gone ≡ self.old.gone }
+        ensures noted { self.new.left_back ≡ self.old.left_back }
     {
         self.heap.put(cell, key, value)
     }
@@ -39,6 +41,7 @@ impl Heap for Machine {
         ensures did { Does (λ nu. Remove (nu cell) key.now) (λ nu. told (λ b. b) result) (seen_of self.old) (seen_of self.new) }
         ensures more { count (seen_of self.old) ≤ count (seen_of self.new) }
         ensures gone { self.new.gone ≡ self.old.gone }
+        ensures noted { self.new.left_back ≡ self.old.left_back }
     {
         self.heap.remove(cell, key)
     }
@@ -49,6 +52,7 @@ impl Heap for Machine {
         ensures more { count (seen_of self.old) ≤ count (seen_of self.new) }
         ensures exists { IfOk result (λ cell. cell < count (seen_of self.new)) }
         ensures gone { self.new.gone ≡ self.old.gone }
+        ensures noted { self.new.left_back ≡ self.old.left_back }
     {
         self.heap.make(kind)
     }
@@ -57,6 +61,7 @@ impl Heap for Machine {
         ensures did { Does (λ nu. Pay units) (λ nu. told (λ u. u) result) (seen_of self.old) (seen_of self.new) }
         ensures more { count (seen_of self.old) ≤ count (seen_of self.new) }
         ensures gone { self.new.gone ≡ self.old.gone }
+        ensures noted { self.new.left_back ≡ self.old.left_back }
     {
         self.heap.pay(units)
     }

@@ -28,6 +28,7 @@ impl Machine {
         ensures did { Does (λ nu. ReadName (nu frame) name.now) (λ nu. told (val_in nu) result) (seen_of self.old) (seen_of self.new) }
         ensures more { count self.old ≤ count self.new }
         ensures gone { self.new.gone ≡ self.old.gone }
+        ensures noted { self.new.left_back ≡ self.old.left_back }
         ensures exists { IfOk result (λ v. needs v ≤ count self.new) }
     {
         self.heap.read_name(frame, name)
@@ -41,6 +42,7 @@ impl Machine {
         ensures did { Does (λ nu. WriteName (nu frame) name.now (val_in nu value)) (λ nu. told (λ u. u) result) (seen_of self.old) (seen_of self.new) }
         ensures more { count self.old ≤ count self.new }
         ensures gone { self.new.gone ≡ self.old.gone }
+        ensures noted { self.new.left_back ≡ self.old.left_back }
     {
         self.heap.write_name(frame, name, value)
     }
@@ -53,6 +55,7 @@ impl Machine {
         ensures did { Does (λ nu. Declare (nu frame) name.now (val_in nu value)) (λ nu. told (λ u. u) result) (seen_of self.old) (seen_of self.new) }
         ensures more { count self.old ≤ count self.new }
         ensures gone { self.new.gone ≡ self.old.gone }
+        ensures noted { self.new.left_back ≡ self.old.left_back }
     {
         self.heap.declare(frame, name, value)
     }
@@ -64,6 +67,7 @@ impl Machine {
         ensures did { Does (λ nu. Keys (nu cell)) (λ nu. told (λ keys. keys.items) result) (seen_of self.old) (seen_of self.new) }
         ensures more { count self.old ≤ count self.new }
         ensures gone { self.new.gone ≡ self.old.gone }
+        ensures noted { self.new.left_back ≡ self.old.left_back }
     {
         self.heap.listed(cell)
     }

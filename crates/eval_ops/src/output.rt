@@ -25,6 +25,7 @@ impl Machine {
         ensures did { Does (λ nu. Print line.now) (λ nu. told (λ u. u) result) (seen_of self.old) (seen_of self.new) }
         ensures more { count self.old ≤ count self.new }
         ensures gone { self.new.gone ≡ self.old.gone }
+        ensures noted { self.new.left_back ≡ self.old.left_back }
     {
         self.heap.pay(line.as_slice().len() as u64 + 1)?;
         add_line(self.alloc, &mut self.output, line)?;

@@ -1,5 +1,5 @@
 //! Calls that take an index, and scopes: entered, left and taken back, left and kept.
-ghost use Rattle.std.specs.Prelude.{◌≡◌, ◌<◌, ◌∷◌, ◌++◌, [], Some, length, take, IfOk, IfErr, OnOk, OnErr};
+ghost use Rattle.std.specs.Prelude.{◌≡◌, ◌<◌, ◌∷◌, ◌++◌, [], Some, None, length, take, IfOk, IfErr, OnOk, OnErr};
 ghost use Rattle.turk_base.specs.Names.{path_in};
 ghost use Rattle.turk_base.specs.State.{next_call};
 ghost use Rattle.run_heap.specs.Core.{names_in};
@@ -37,6 +37,7 @@ impl Machine {
         ensures path { IfOk result (λ p. p ≡ self.old.heap.place.path ++ self.old.heap.place.calls ∷ []) }
         ensures ready { IfOk result (λ p. IsReady p self.new.heap.place.path self.new.heap.place.calls (names_in self.new.heap.cells.now)) }
         ensures ok { OnOk result (Changes (λ nu σ. next_call σ) (seen_of self.old) (seen_of self.new)) }
+        ensures noted { self.new.left_back ≡ self.old.left_back }
         ensures err { IfErr result (λ e. e ≡ OpStop.Memory) }
         ensures same { OnErr result (self.new ≡ self.old) }
     {
@@ -49,6 +50,7 @@ impl Machine {
         requires { IsReady path.now self.old.heap.place.path self.old.heap.place.calls (names_in self.old.heap.cells.now) }
         ensures ok { OnOk result (Enters (path_in path.now) branch (seen_of self.old) (seen_of self.new)) }
         ensures entered { IfOk result (λ e. e ≡ length (seen_of self.new).outer) }
+        ensures noted { OnOk result (self.new.left_back ≡ None) }
         ensures err { IfErr result (λ e. e ≡ OpStop.Memory) }
         ensures same { OnErr result (self.new ≡ self.old) }
     {
@@ -97,7 +99,8 @@ impl Machine {
     pub fn leave_keep(&mut self, entered: Entered)
         requires newest { entered ≡ length (seen_of self.old).outer }
         requires open { 0 < length (seen_of self.old).outer }
-        ensures { LeavesKeep (seen_of self.old) (seen_of self.new) }
+        ensures left { LeavesKeep (seen_of self.old) (seen_of self.new) }
+        ensures noted { self.new.left_back ≡ None }
     {
         self.heap.known();
         self.heap.leave_keep(entered.opened);

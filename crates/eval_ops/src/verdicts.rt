@@ -15,7 +15,8 @@ use value_cells::OpStop;
 impl Machine {
     /// Applies the verdict rule for a once call in the branch that runs. It takes no memory.
     pub fn once_at(&mut self)
-        ensures { Changes (λ nu σ. once_call (seen_of self.old).scope.branch σ) (seen_of self.old) (seen_of self.new) }
+        ensures did { Changes (λ nu σ. once_call (seen_of self.old).scope.branch σ) (seen_of self.old) (seen_of self.new) }
+        ensures noted { self.new.left_back ≡ self.old.left_back }
     {
         self.heap.once_at();
     }
@@ -24,6 +25,7 @@ impl Machine {
     /// changed.
     pub fn threw(&mut self, branch: &Path) -> Result<(), OpStop>
         ensures ok { OnOk result (Changes (λ nu σ. throws (path_in branch.now) σ) (seen_of self.old) (seen_of self.new)) }
+        ensures noted { self.new.left_back ≡ self.old.left_back }
         ensures err { IfErr result (λ e. e ≡ OpStop.Memory) }
         ensures same { OnErr result (self.new ≡ self.old) }
     {

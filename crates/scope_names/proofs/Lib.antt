@@ -10,4 +10,3 @@ pub mod FrameParts
 pub mod ScriptParts
 pub mod TurnedParts
 pub mod TwoParts
-pub mod EmptyScript

@@ -16,8 +16,6 @@ mod names;
 mod parts;
 mod scopes;
 mod stmts;
-#[cfg(test)]
-mod tests;
 mod walk;
 
 use crate::hoist::{DEPTH, frame_names};

@@ -1,7 +1,8 @@
-//! What no clause says: with ample memory a script is read. And which of two faults is told.
+//! What no clause says: with ample memory a script is read. And how names are bound, and which of two faults is told.
 
 use super::*;
-use js_tree::{Binding, ExprNode, StmtNode};
+use js_tree::{Binding, ExprNode, Stmt, StmtNode};
+use std::alloc::Global;
 use std::test::Fail;
 use turk_base::{Bytes, NoMemory};
 
@@ -51,77 +52,175 @@ fn reads(rt: HostRuntime) -> Result<(), Fail> {
     Ok(())
 }
 
-/// A text that repeats a part, what follows it, and the fault that is told.
+/// How the name that the last statement is, is bound, and whether it is a function's own name.
+fn last_name(stmts: &[Stmt]) -> Option<(Binding, bool)> {
+    match stmts.last()?.node() {
+        StmtNode::Expression(value) => match value.node() {
+            ExprNode::Name(named) => Some((named.binding, named.own)),
+            _ => None,
+        },
+        _ => None,
+    }
+}
+
+/// The same of the last name within the first statement: in the body of its function, or of its catch.
+fn inner_name(stmts: &[Stmt]) -> Option<(Binding, bool)> {
+    match stmts.first()?.node() {
+        StmtNode::Expression(value) => match value.node() {
+            ExprNode::Function(_, _, body) => last_name(body.statements()),
+            _ => None,
+        },
+        StmtNode::Try(_, Some(caught), _) => match caught.body.get().node() {
+            StmtNode::Block(inner) => last_name(inner.as_slice()),
+            _ => None,
+        },
+        _ => None,
+    }
+}
+
+/// A script, how the last name within its first statement is bound, and how the name that is its last statement is.
+const NAMES: [(&[u8], (Binding, bool), (Binding, bool)); 7] = [
+    (
+        b"(function g(a) { var b; b; }); b;",
+        (Binding::Out(0), false),
+        (Binding::Nothing, false),
+    ),
+    (
+        b"(function g(a) { var a; a; }); a;",
+        (Binding::Out(0), false),
+        (Binding::Nothing, false),
+    ),
+    (
+        b"(function g(a) { var b; g; }); g;",
+        (Binding::Out(1), true),
+        (Binding::Nothing, false),
+    ),
+    (
+        b"(function g(g) { var b; g; }); Error;",
+        (Binding::Out(0), false),
+        (Binding::BuiltIn, false),
+    ),
+    (
+        b"(function g(a) { var String; String; }); String;",
+        (Binding::Out(0), false),
+        (Binding::BuiltIn, false),
+    ),
+    (
+        b"(function g(a) { var b; c; }); undefined;",
+        (Binding::Nothing, false),
+        (Binding::BuiltIn, false),
+    ),
+    (
+        b"try {} catch (e) { var e; e; } e;",
+        (Binding::Out(0), false),
+        (Binding::Out(0), false),
+    ),
+];
+
+#[test]
+fn binds_names(rt: HostRuntime) -> Result<(), Fail> {
+    for (text, inside, outside) in NAMES {
+        match read_script(rt.alloc(), text) {
+            Ok(found) => {
+                assert_eq!(rt; inner_name(found.script().statements()), Some(inside));
+                assert_eq!(rt; last_name(found.script().statements()), Some(outside));
+            }
+            Err(_) => panic!(rt; "no script"),
+        }
+    }
+    Ok(())
+}
+
+/// A text that repeats a part, what follows it, and the fault that is told, if any. Of 198 signs the last stands 199
+/// deep, since the statement is a node too.
 struct Row {
     part: &'static [u8],
     times: usize,
     last: &'static [u8],
-    stop: ScriptStop,
+    stop: Option<ScriptStop>,
 }
 
-/// Eight names and its own: 8,192 of them declare 65,537 names.
+/// Eight names and its own: 8,191 of them declare 65,529 names.
 const NINE: &[u8] = b"function f(a,b,c,d,e,g,h,i){}";
 
-const TABLE: [Row; 10] = [
+const TABLE: [Row; 13] = [
     Row {
         part: b"#",
         times: 1_048_577,
         last: b"",
-        stop: ScriptStop::TooLarge,
+        stop: Some(ScriptStop::TooLarge),
     },
     Row {
         part: b"var = 1; ",
         times: 1,
         last: b"\xFF #",
-        stop: ScriptStop::NotUtf8(9),
+        stop: Some(ScriptStop::NotUtf8(9)),
     },
     Row {
         part: b"var = 1; ",
         times: 1,
         last: b"# \xFF",
-        stop: ScriptStop::BadToken(9),
+        stop: Some(ScriptStop::BadToken(9)),
     },
     Row {
         part: b"with (a) ",
         times: 1,
         last: b"1.5 #",
-        stop: ScriptStop::NumberForm(9),
+        stop: Some(ScriptStop::NumberForm(9)),
     },
     Row {
         part: b"- ",
         times: 250,
         last: b"#",
-        stop: ScriptStop::BadToken(500),
+        stop: Some(ScriptStop::BadToken(500)),
     },
     Row {
         part: b"var = 1; ",
         times: 1,
         last: b"with (a) {}",
-        stop: ScriptStop::Syntax(4),
+        stop: Some(ScriptStop::Syntax(4)),
     },
     Row {
         part: b"with (a) ",
         times: 1,
         last: b"var = 1;",
-        stop: ScriptStop::LeftOut(0, Form::With),
+        stop: Some(ScriptStop::LeftOut(0, Form::With)),
     },
     Row {
         part: b"- ",
         times: 250,
         last: b"with",
-        stop: ScriptStop::Nesting,
+        stop: Some(ScriptStop::Nesting),
     },
     Row {
         part: NINE,
         times: 8192,
         last: b"var = 1;",
-        stop: ScriptStop::Syntax(237_572),
+        stop: Some(ScriptStop::Syntax(237_572)),
     },
     Row {
         part: NINE,
-        times: 8192,
-        last: b"",
-        stop: ScriptStop::TooManyNames,
+        times: 8191,
+        last: b"function f(a,b,c,d,e,g,h){}",
+        stop: Some(ScriptStop::TooManyNames),
+    },
+    Row {
+        part: NINE,
+        times: 8191,
+        last: b"function f(a,b,c,d,e,g){}",
+        stop: None,
+    },
+    Row {
+        part: b"- ",
+        times: 198,
+        last: b"x",
+        stop: None,
+    },
+    Row {
+        part: b"- ",
+        times: 199,
+        last: b"x",
+        stop: Some(ScriptStop::Nesting),
     },
 ];
 
@@ -135,14 +234,19 @@ fn text_of(alloc: Global, row: &Row) -> Result<Bytes, NoMemory> {
     Ok(text)
 }
 
+/// The fault that is told of a text, if any.
+fn fault(alloc: Global, text: &[u8]) -> Option<ScriptStop> {
+    match read_script(alloc, text) {
+        Ok(_) => None,
+        Err(stop) => Some(stop),
+    }
+}
+
 #[test]
 fn tells_the_first_fault(rt: HostRuntime) -> Result<(), Fail> {
     for row in &TABLE {
         let text = text_of(rt.alloc(), row)?;
-        match read_script(rt.alloc(), text.as_slice()) {
-            Ok(_) => panic!(rt; "a script"),
-            Err(stop) => assert_eq!(rt; stop, row.stop),
-        }
+        assert_eq!(rt; fault(rt.alloc(), text.as_slice()), row.stop);
     }
     Ok(())
 }

@@ -139,6 +139,3 @@ pub fn deleted(it: Expr) -> Option<Expr>
         _ => None,
     }
 }
-
-#[cfg(test)]
-mod tests;

@@ -5,5 +5,3 @@
 
 pub mod exprs;
 pub mod stmts;
-#[cfg(test)]
-mod tests;

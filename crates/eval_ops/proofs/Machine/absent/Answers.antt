@@ -17,8 +17,8 @@ invariant_of-self c =
       room = subst (λ (l : Option (List ℕ)). HasRoom (record m { left_back = l }) cap) (sym e) (plain_room m cap c.self.invariant.room);
     }
 
-pub returns-in_default : goal.returns-in_default
-returns-in_default c =
+pub returns-in_default-clause-did : goal.returns-in_default-clause-did
+returns-in_default-clause-did c =
     let m = run_of c.self.inside in
     subst (λ (s : Run). Changes (λ nu σ. notes s.left_back σ) (seen_of s) (seen_of (record m { left_back = c.replace.new.dest }))) c.self.view_is
     (subst (λ (l : Option (List ℕ)). Changes (λ nu σ. notes m.left_back σ) (seen_of m) (seen_of (record m { left_back = l }))) (sym c.replace.ensures.after)
@@ -40,8 +40,8 @@ invariant_of-self-2 c =
           (noted_room m k.run p (vec_capacity c.self.inside.gone) (vec_capacity c.push.new.self) k.room c.push.ensures.capacity));
     }
 
-pub returns : goal.returns
-returns c =
+pub returns-clause-did : goal.returns-clause-did
+returns-clause-did c =
     let m = run_of c.self.inside in
     let p = c.in-Some.path in
     let k = c.self.invariant in

@@ -16,8 +16,8 @@ invariant_of-result c =
       room = subst (λ (m : Run). HasRoom m (vec_capacity c.new-4.result)) (sym e) (bare_room c.args.fuel c.in_ok-heap.heap b (vec_capacity c.new-4.result));
     }
 
-pub returns : goal.returns
-returns c =
+pub returns-clause-bare : goal.returns-clause-bare
+returns-clause-bare c =
     let b = c.in_ok-heap.ensures in
     let m' : Run = record { heap = c.in_ok-heap.heap; body = false; values = c.new-2.result.items; text = c.new-3.result; gone = c.new-4.result.items; outer = c.new-5.result.items; left_back = None } in
     let e : m' ≡ bare c.args.fuel c.in_ok-heap.heap b = λ i. record { heap = c.in_ok-heap.heap; body = false; values = c.new-2.ensures.items i; text = c.new-3.ensures i; gone = c.new-4.ensures.items i; outer = c.new-5.ensures.items i; left_back = None } in

@@ -28,8 +28,8 @@ invariant_of-self c =
       room = keep_room m m' c.self.invariant.run c.known.ensures.core o c.leave_keep.ensures c.in-Some.ensures.items refl refl refl refl refl _ c.self.invariant.room;
     }
 
-pub returns : goal.returns
-returns c =
+pub returns-clause-left : goal.returns-clause-left
+returns-clause-left c =
     let m = run_of c.self.inside in
     let o = c.in-Some.around in
     let m' : Run = record { heap = c.leave_keep.new.self; body = o.body; values = o.values.items; text = m.text; gone = m.gone; outer = c.pop.new.self.items; left_back = None } in

@@ -15,8 +15,8 @@ invariant_of-self c =
     let h = c.once_at.new.self in
     record { run = run_same m h c.self.invariant.run c.once_at.ensures.did.cells c.once_at.ensures.rests.outer; room = room_kept m h _ c.self.invariant.room }
 
-pub returns : goal.returns
-returns c =
+pub returns-clause-did : goal.returns-clause-did
+returns-clause-did c =
     let m = run_of c.self.inside in
     let h = c.once_at.new.self in
     subst (λ (s : Run). Changes (λ nu σ. once_call (seen_of s).scope.branch σ) (seen_of s) (seen_of (with_heap m h))) c.self.view_is

@@ -11,7 +11,7 @@ returns-clause-ok g c =
     record {
       mid = heap_of c.take_back.new.self;
       leaves = e.left;
-      changes = subst (λ o. Changes (λ nu σ. notes o σ) (heap_of c.take_back.new.self) (seen_of c.absent.new.self)) e.noted c.absent.ensures;
+      changes = subst (λ o. Changes (λ nu σ. notes o σ) (heap_of c.take_back.new.self) (seen_of c.absent.new.self)) e.noted c.absent.ensures.did;
       was = c.requires.sound.good.told;
       is = e.sound.good.told;
       rest = λ i. moment_at (seen_of c.absent.new.self) (g.A.Asker.seen (e.asker i)) (g.A.Asker.words (e.asker i)) (notes_of (e.notes i));

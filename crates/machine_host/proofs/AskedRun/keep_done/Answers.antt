@@ -8,7 +8,7 @@ pub returns-clause-sound : goal.returns-clause-sound
 returns-clause-sound g c =
     let s = heap_of c.args.self.now in
     let t = seen_of c.leave_keep.new.self in
-    let e = c.leave_keep.ensures in
+    let e = c.leave_keep.ensures.left in
     record {
       asked = c.requires.sound.asked;
       good = good_kept s t c.requires.sound.good e c.known.ensures;
@@ -16,4 +16,4 @@ returns-clause-sound g c =
     }
 
 pub returns-clause-more : goal.returns-clause-more
-returns-clause-more g c = let a = ap length c.leave_keep.ensures.names in omega (arith, a)
+returns-clause-more g c = let a = ap length c.leave_keep.ensures.left.names in omega (arith, a)

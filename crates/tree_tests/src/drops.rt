@@ -1,9 +1,9 @@
 //! Lists of trees grow at their end, and a member is deleted.
-use crate::{deleted, exprs_with, stmts_with};
 use js_tree::{Expr, ExprNode, Key, Stmt, StmtNode};
 use sqlite_items::{Boxed, Items};
 use std::alloc::Global;
 use std::test::Fail;
+use tree_drops::{deleted, exprs_with, stmts_with};
 use turk_base::{NoMemory, Units};
 
 // A node with nothing in it.

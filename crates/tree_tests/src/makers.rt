@@ -1,7 +1,7 @@
 //! Nodes with more than one part, made with memory to spare: each part in its place.
-use crate::{exprs, stmts};
 use js_tree::{BinaryOperator, Expr, ExprNode, ForStart, Key, Stmt, StmtNode};
 use std::test::Fail;
+use tree_makers::{exprs, stmts};
 use turk_base::{NoMemory, Units};
 
 // A node with nothing in it, by name.
