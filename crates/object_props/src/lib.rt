@@ -13,6 +13,9 @@ use std::hash::Hash;
 use std::marker::Model;
 use std::mem;
 
+/// Up to so many pairs are kept with no room to spare.
+const FEW: usize = 4;
+
 /// Pairs of a key and a value in order, no two keys of which are equal.
 ///
 /// Contracts see it as the list of its pairs. Keys are compared by their `==`.
@@ -108,8 +111,20 @@ impl<K: Eq + Hash + Drop, V: Drop> Props<K, V> {
         ensures back { IfErr result (λ pair. pair ≡ (key, value)) }
     {
         match self.map.shift_insert(place, key, value) {
-            Ok(_) => Ok(()),
+            Ok(_) => {
+                self.trim();
+                Ok(())
+            }
             Err(failed) => Err(failed.value),
+        }
+    }
+
+    /// Gives back the room that few pairs don't need: the map makes room for nine at once, and most objects have one or two.
+    fn trim(&mut self)
+        ensures { self.new ≡ self.old }
+    {
+        if self.map.len() <= FEW {
+            self.map.shrink_to_fit();
         }
     }
 }
