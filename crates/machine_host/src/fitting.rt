@@ -19,10 +19,11 @@ const MOST_FIELDS: usize = 4_294_967_295;
 /// The most units of a text, and of a key.
 const MOST_UNITS: usize = 1_048_576;
 
-/// Tests a data against the limits of a record: true only where it is nested at most 64 deep, with texts and keys of at most
-/// 1,048,576 units, lists of at most 1,000,000 items and fewer than 2^32 fields at each level.
+/// Tests a data against the limits of a record: true exactly where it is nested at most 64 deep, with texts and keys of at
+/// most 1,048,576 units, lists of at most 1,000,000 items and fewer than 2^32 fields at each level.
 pub fn fits(gift: &Data) -> bool
-    ensures { result ≡ true → IsRecordWithin (Once gift.now) }
+    ensures within { result ≡ true → IsRecordWithin (Once gift.now) }
+    ensures all { IsRecordWithin (Once gift.now) → result ≡ true }
 {
     node_fits(gift.node(), DEEPEST)
 }
@@ -33,6 +34,7 @@ pub fn fits(gift: &Data) -> bool
 fn node_fits(node: &Node, left: u32) -> bool
     ensures within { result ≡ true → IsDataWithin (data_of node.now) }
     ensures deep { result ≡ true → nesting (data_of node.now) ≤ left }
+    ensures all { IsDataWithin (data_of node.now) → nesting (data_of node.now) ≤ left → result ≡ true }
 {
     match node {
         Node::Undefined => true,
@@ -65,6 +67,7 @@ fn node_fits(node: &Node, left: u32) -> bool
 fn items_fit(items: &[Data], left: u32) -> bool
     ensures within { result ≡ true → AreItemsWithin (items_of items.now) }
     ensures deep { result ≡ true → nesting_items (items_of items.now) ≤ left }
+    ensures all { AreItemsWithin (items_of items.now) → nesting_items (items_of items.now) ≤ left → result ≡ true }
 {
     for item in items {
         if !node_fits(item.node(), left) {
@@ -78,6 +81,7 @@ fn items_fit(items: &[Data], left: u32) -> bool
 fn fields_fit(fields: &[(Units, Data)], left: u32) -> bool
     ensures within { result ≡ true → AreFieldsWithin (fields_of fields.now) }
     ensures deep { result ≡ true → nesting_fields (fields_of fields.now) ≤ left }
+    ensures all { AreFieldsWithin (fields_of fields.now) → nesting_fields (fields_of fields.now) ≤ left → result ≡ true }
 {
     for field in fields {
         if field.0.len() > MOST_UNITS {
