@@ -1,3 +1,2 @@
-pub mod KeyFacts
 pub mod Naming
 pub mod Renaming

@@ -1,5 +1,5 @@
 -- Slots by numbers under a naming of cells, and what the calls of the monitor come to by names.
-use Rattle.std.proofs.Common.{◌≡◌, refl, ap, sym, ◌∙◌, subst, ℕ, zero, suc, ◌<◌, ◌≤◌, List, [], ◌∷◌, ◌++◌, length, get_or, Some, slice_get, false, arith}
+use Rattle.std.proofs.Common.{◌≡◌, refl, ap, sym, ◌∙◌, subst, ℕ, zero, suc, ◌<◌, ◌≤◌, List, [], ◌∷◌, ◌++◌, length, get_or, Option, Some, None, IfNone, slice_get, false, arith}
 use Rattle.std.proofs.lemmas.Option.{slice_get-get_or, slice_get_within}
 use Rattle.std.specs.Prelude.{Result, Ok, Err, OnOk, OnErr}
 use Rattle.turk_base.specs.declared.NoMemory.{NoMemory}
@@ -8,11 +8,12 @@ use Rattle.turk_base.specs.State.{Verdict, independent, touched_open, once_while
 use Rattle.branch_check.specs.declared.Slot.{Slot as CodeSlot}
 use Rattle.branch_check.specs.declared.OpenSlot.{OpenSlot}
 use Rattle.branch_check.specs.Watch.{part_numbered, numbered, openings_of, Watch, Kept, watch_of, after_touch, after_once, after_write, after_join, after_throw}
-use Rattle.slot_watch.specs.Keys.{Key, HasNumber, HasNone, AreDistinct, Grows, part_in, part_of_key}
+use Rattle.key_table.specs.Keys.{Key, HasNumber, HasNone, NamesNone, AreDistinct, Grows}
+use Rattle.slot_watch.specs.Keys.{part_in, part_of_key}
 use Rattle.slot_watch.specs.Named.{key_number, number_of_cell, number_of_key, by_names, renamed_all, renamed, named, TellsApart}
 use Rattle.slot_watch.specs.Within.{Each, Holds, CellsWithin, KeysWithin}
 use Rattle.slot_watch.specs.Slots.{Slots, Turns, KeepsMarks}
-use Rattle.slot_watch.proofs.KeyFacts.{get_front, get_last}
+use Rattle.key_table.proofs.KeyFacts.{get_front, get_last}
 use Rattle.slot_watch.proofs.Renaming.{touch_is, once_is, write_is, join_is, throw_is, untouched, alike, holds_touch, holds_once, holds_write, holds_join, holds_throw, holds_of, each_both, each_as}
 
 -- ---- slots that stand for numbers
@@ -65,6 +66,15 @@ part_stays old new g (suc a) h = let t = key_there old a h in ap part_of_key (g.
 
 pub has_part : (keys : List Key) (key : Key) (n : ℕ) → HasNumber keys key n → part_in keys n ≡ at key
 has_part keys key n h = ap (part_in keys) h.number_is ∙ ap part_of_key h.stands
+
+-- a number that no key has stands for the shape
+pub no_part : (keys : List Key) (n : ℕ) → NamesNone keys n → part_in keys n ≡ shape
+no_part keys zero h = refl
+no_part keys (suc k) h = by (slice_get keys k) refl
+  where
+    by : (o : Option Key) → slice_get keys k ≡ o → part_of_key o ≡ shape
+    by None e = refl
+    by (Some key) e = absurd (h.none key (record { place = k; number_is = refl; stands = e }))
 
 pub has_within : (keys : List Key) (key : Key) (n : ℕ) → HasNumber keys key n → n ≤ length keys
 has_within keys key n h = let w : h.place < length keys = slice_get_within keys h.place key h.stands in omega (arith, h.number_is)
@@ -208,6 +218,10 @@ module _ (keys : List Key) (distinct : AreDistinct keys) (old : Kept) (ms : List
 pub either : {P Q X : Type 0} (r : Result (Unit {0}) NoMemory) → OnOk r P → OnErr r Q → (P → X) → (Q → X) → X
 either (Ok u) p q f g = f p
 either (Err e) p q f g = g q
+
+pub when_none : {A P Q : Type 0} (r : Option A) → (P → Q) → IfNone r P → IfNone r Q
+when_none None f h = f h
+when_none (Some a) f h = tt
 
 pub on_ok : {P Q : Type 0} (r : Result (Unit {0}) NoMemory) → (P → Q) → OnOk r P → OnOk r Q
 on_ok (Ok u) f h = f h

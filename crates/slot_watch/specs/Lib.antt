@@ -1,6 +1,5 @@
 pub mod Keys
 pub mod Named
 pub mod Slots
-pub mod Stored
 pub mod Watched
 pub mod Within

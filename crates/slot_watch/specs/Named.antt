@@ -3,7 +3,8 @@ use Rattle.std.specs.Prelude.{◌≡◌, ◌<◌, ℕ, zero, List, [], ◌∷◌
 use Rattle.turk_base.specs.Names.{Name, cell, Part, shape, at, Slot, slot}
 use Rattle.turk_base.specs.State.{Opening, opening, Verdict, independent, touched_open, once_while_open, branch_threw}
 use Rattle.branch_check.specs.Watch.{Watch, Kept, watch_of}
-use Rattle.slot_watch.specs.Keys.{Key, part_in}
+use Rattle.key_table.specs.Keys.{Key}
+use Rattle.slot_watch.specs.Keys.{part_in}
 
 -- the numbers that a slot of the monitor stands for
 abbrev pub key_number : Part → ℕ

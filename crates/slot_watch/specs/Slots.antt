@@ -2,7 +2,7 @@
 use Rattle.std.specs.Prelude.{◌≡◌, ℕ, List, Some, slice_get}
 use Rattle.turk_base.specs.Names.{Name}
 use Rattle.branch_check.specs.Watch.{Watch, Kept}
-use Rattle.slot_watch.specs.Keys.{Key}
+use Rattle.key_table.specs.Keys.{Key}
 use Rattle.slot_watch.specs.Named.{named, TellsApart}
 
 pub record Slots : Type 0 where

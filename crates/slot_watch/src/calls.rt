@@ -3,13 +3,14 @@ ghost use Rattle.std.specs.Prelude.{◌≡◌, ◌<◌, [], ◌∷◌, ◌++◌,
 ghost use Rattle.turk_base.specs.Names.{path_in, shape, at, slot};
 ghost use Rattle.turk_base.specs.State.{independent};
 ghost use Rattle.branch_check.specs.Watch.{Kept, verdict_of, after_touch, after_once, after_write, after_join, after_throw};
-ghost use Rattle.slot_watch.specs.Keys.{HasNumber, part_in};
+ghost use Rattle.key_table.specs.Keys.{HasNumber};
+ghost use Rattle.slot_watch.specs.Keys.{part_in};
 ghost use Rattle.slot_watch.specs.Within.{CellsWithin};
 ghost use Rattle.slot_watch.specs.Slots.{Turns, KeepsMarks};
 
 use crate::SlotWatch;
-use crate::keys::KeyTable;
 use branch_check::{Found, Monitor, MonitorMark, Slot};
+use key_table::KeyTable;
 use std::alloc::Global;
 use turk_base::{NoMemory, Path, Units};
 

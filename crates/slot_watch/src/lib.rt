@@ -2,12 +2,11 @@
 #![tactic(auto)]
 
 use branch_check::Monitor;
-use keys::KeyTable;
+use key_table::KeyTable;
 use std::alloc::Global;
 use std::marker::Model;
 
 mod calls;
-mod keys;
 #[cfg(test)]
 mod tests;
 

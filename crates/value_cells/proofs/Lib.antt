@@ -1,3 +1,4 @@
 mod Kept
 pub mod Lists
+mod Named
 pub mod Turns

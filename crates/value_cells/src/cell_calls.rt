@@ -7,6 +7,7 @@ ghost use Rattle.value_cells.specs.Needs.{needs, kind_needs};
 ghost use Rattle.value_cells.specs.Held.{Cell, count, names_of, kinds_of, props_at, own, key_eq, with_props, IsWhole};
 
 use crate::{CellData, CellKind, CellName, Cells, Mark, Value};
+use key_table::KeyTable;
 use object_props::Props;
 use std::alloc::Global;
 use turk_base::{NoMemory, Units};
@@ -19,6 +20,7 @@ impl Cells {
     {
         Cells {
             alloc,
+            keys: KeyTable::new(alloc),
             cells: Vec::new(alloc),
             marks: Vec::new(alloc),
         }
@@ -74,7 +76,10 @@ impl Cells {
         ensures { option_copied result ≡ slice_get (keys_of (props_at self.now.now cell)) place }
     {
         let data = &self.cells[cell as usize];
-        data.props.key_at(place)
+        match data.props.key_at(place) {
+            Some(number) => self.keys.key(*number),
+            None => None,
+        }
     }
 
     /// The value of a cell's own property, or None exactly where the key is missing. It takes no
@@ -85,7 +90,10 @@ impl Cells {
         ensures exists { IfSome result (λ v. needs v.now ≤ count self.now.now) }
     {
         let data = &self.cells[cell as usize];
-        data.props.get(key)
+        match self.keys.find(key) {
+            Some(number) => data.props.get(&number),
+            None => None,
+        }
     }
 
     /// Sets a property that is there, which keeps its place. After NoMemory nothing changed; while
@@ -99,8 +107,11 @@ impl Cells {
         ensures marks { self.new.marks ≡ self.old.marks }
         ensures no_memory { self.old.marks ≡ [] → IsOk result }
     {
+        let Some(number) = self.keys.find(key) else {
+            unreachable!()
+        };
         let data = &mut self.cells[cell as usize];
-        let _ = data.props.set(key, value);
+        let _ = data.props.set(&number, value);
         Ok(())
     }
 
@@ -113,9 +124,11 @@ impl Cells {
         ensures err { OnErr result (self.new.now ≡ self.old.now) }
         ensures marks { self.new.marks ≡ self.old.marks }
     {
+        let number = self.keys.number(self.alloc, &key)?;
+        self.keys.known();
         let data = &mut self.cells[cell as usize];
         let place = data.props.len();
-        match data.props.insert_at(place, key, value) {
+        match data.props.insert_at(place, number, value) {
             Ok(()) => Ok(()),
             Err(_) => Err(NoMemory),
         }
@@ -129,8 +142,11 @@ impl Cells {
         ensures err { OnErr result (self.new.now ≡ self.old.now) }
         ensures marks { self.new.marks ≡ self.old.marks }
     {
+        let Some(number) = self.keys.find(key) else {
+            unreachable!()
+        };
         let data = &mut self.cells[cell as usize];
-        let _ = data.props.delete(key);
+        let _ = data.props.delete(&number);
         Ok(())
     }
 
@@ -220,7 +236,7 @@ fn copy_cells(alloc: Global, cells: &[CellData]) -> Result<Vec<CellData>, NoMemo
 }
 
 /// Equal properties.
-fn copy_props(alloc: Global, props: &Props<Units, Value>) -> Result<Props<Units, Value>, NoMemory>
+fn copy_props(alloc: Global, props: &Props<u32, Value>) -> Result<Props<u32, Value>, NoMemory>
     ensures { IfOk result (λ copy. copy ≡ props.now) }
 {
     let mut copy = Props::new(alloc);
@@ -228,9 +244,8 @@ fn copy_props(alloc: Global, props: &Props<Units, Value>) -> Result<Props<Units,
         let Some((key, value)) = props.pair_at(place) else {
             unreachable!()
         };
-        let key = key.copy(alloc)?;
         let value = value.copy(alloc)?;
-        match copy.insert_at(place, key, value) {
+        match copy.insert_at(place, *key, value) {
             Ok(()) => {}
             Err(_) => return Err(NoMemory),
         }

@@ -10,6 +10,7 @@ ghost use Rattle.value_cells.specs.Needs.{needs, option_needs, kind_needs};
 ghost use Rattle.value_cells.specs.Seen.{Seen, count, val_in, kind_in};
 ghost use Rattle.value_cells.specs.Does.{Does, told, Says};
 
+use key_table::KeyTable;
 use object_props::Props;
 use std::alloc::Global;
 use std::marker::Model;
@@ -61,12 +62,12 @@ pub enum OpStop {
     Memory,
 }
 
-/// A cell as it is kept.
+/// A cell as it is kept: its properties have the numbers of their keys.
 #[derive(Drop)]
 struct CellData {
     name: CellName,
     kind: CellKind,
-    props: Props<Units, Value>,
+    props: Props<u32, Value>,
 }
 
 /// Cells with their properties in order, which can be taken back to what they were at a mark.
@@ -74,9 +75,13 @@ struct CellData {
 /// Contracts see the cells that there are now, in the order of making, and for each open mark,
 /// the newest last, the cells that there were when it was set. No two cells have one name, and no
 /// cell names another that isn't there.
+///
+/// Each key's text is kept once, for as long as the cells: a key that no cell has any more keeps its
+/// number.
 #[derive(Drop)]
 pub struct Cells {
     alloc: Global,
+    keys: KeyTable,
     cells: Vec<CellData>,
     marks: Vec<Vec<CellData>>,
 }

@@ -1,7 +1,7 @@
 use Rattle.std.proofs.Common.{sym, subst, length, [], ◌∷◌, ◌++◌}
 use Rattle.slot_watch.specs.Within.{KeysWithin}
 use Rattle.slot_watch.proofs.Naming.{marks_same, either_mark}
-use Rattle.slot_watch.proofs.KeyFacts.{pushed}
+use Rattle.key_table.proofs.KeyFacts.{pushed}
 use Rattle.slot_watch.proofs.SlotWatch.mark.Goals as goal
 
 pub invariant_of-self : goal.invariant_of-self

@@ -9,7 +9,7 @@ use Rattle.std.proofs.lemmas.Map.Entries.{place_from_lookup}
 use Rattle.std.specs.Prelude.{nat_eq, ◌==◌}
 use Rattle.std.specs.Cmp.Lexicographic.{pointwise}
 use Rattle.std.specs.Map.{lookup, keys_of}
-use Rattle.slot_watch.specs.Keys.{Key, HasNumber, HasNone, Numbers, AreDistinct, Grows}
+use Rattle.key_table.specs.Keys.{Key, HasNumber, HasNone, Numbers, AreDistinct, Grows}
 
 first_of : (x y : Bool) → x && y ≡ true → x ≡ true
 first_of true y e = refl

@@ -1,10 +1,10 @@
 use Rattle.std.proofs.Common.{◌≡◌, ap, sym, ◌∙◌, subst, arith, suc}
 use Rattle.std.specs.Map.{keys_of}
-use Rattle.slot_watch.specs.Keys.{HasNone, HasNumber, Grows}
-use Rattle.slot_watch.specs.Stored.{IsTable}
-use Rattle.slot_watch.proofs.KeyFacts.{none, numbered_more, distinct_more, has_number, grows_more, grows_same}
-use Rattle.slot_watch.proofs.keys.KeyTable.add.Goals as goal
-use Rattle.slot_watch.proofs.keys.KeyTable.add.Goals.{in-Ok, in-Err}
+use Rattle.key_table.specs.Keys.{HasNone, HasNumber, Grows}
+use Rattle.key_table.specs.Stored.{IsTable}
+use Rattle.key_table.proofs.KeyFacts.{none, numbered_more, distinct_more, has_number, grows_more, grows_same}
+use Rattle.key_table.proofs.KeyTable.add.Goals as goal
+use Rattle.key_table.proofs.KeyTable.add.Goals.{in-Ok, in-Err}
 
 pub insert_at-requires-clause-fresh : goal.insert_at-requires-clause-fresh
 insert_at-requires-clause-fresh c =

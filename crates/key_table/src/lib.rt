@@ -1,7 +1,8 @@
-//! Keys by numbers.
+//! Texts by numbers: each text is kept once, as a key, and has a number.
+#![tactic(auto)]
+
 ghost use Rattle.std.specs.Prelude.{◌≡◌, ◌+◌, [], IfOk, OnErr, IfSome, IfNone};
-ghost use Rattle.turk_base.specs.Names.{shape};
-ghost use Rattle.slot_watch.specs.Keys.{Numbers, part_in, HasNumber, HasNone, AreDistinct, Grows};
+ghost use Rattle.key_table.specs.Keys.{Numbers, HasNumber, HasNone, NamesNone, AreDistinct, Grows};
 
 use object_props::Props;
 use std::alloc::Global;
@@ -22,7 +23,7 @@ impl Model for KeyTable {
 
     ghost Value = { List (List ℕ) };
 
-    ghost use Rattle.slot_watch.specs.Stored.{IsTable};
+    ghost use Rattle.key_table.specs.Stored.{IsTable};
 
     ghost view = { λ t. keys_of t.entries };
 
@@ -59,7 +60,7 @@ impl KeyTable {
     /// The key of a number, or None exactly for 0 and past the last.
     pub fn key(&self, number: u32) -> Option<&Units>
         ensures key { IfSome result (λ k. HasNumber self.now k.now number) }
-        ensures none { IfNone result (part_in self.now number ≡ shape) }
+        ensures none { IfNone result (NamesNone self.now number) }
     {
         if number == 0 {
             return None;
