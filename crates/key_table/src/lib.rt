@@ -9,6 +9,9 @@ use std::alloc::Global;
 use std::marker::Model;
 use turk_base::{NoMemory, Units};
 
+#[cfg(test)]
+mod tests;
+
 /// Keys, each with its number: they are counted from 1 in the order in which they came.
 ///
 /// Contracts see the keys in that order. No key stands twice.
