@@ -6,9 +6,8 @@ use Rattle.turk_base.specs.declared.SlotName.{SlotName}
 use Rattle.branch_check.specs.declared.Slot.{Slot as CodeSlot}
 use Rattle.branch_check.specs.Watch.{Watch, part_numbered, numbered}
 use Rattle.value_cells.specs.declared.CellName.{CellName}
-use Rattle.value_cells.specs.Held.{IsWhole}
+use Rattle.value_cells.specs.Held.{Key, IsWhole}
 use Rattle.value_cells.specs.Seen.{Naming, name_in}
-use Rattle.key_table.specs.Keys.{Key}
 use Rattle.slot_watch.specs.Keys.{part_in}
 use Rattle.slot_watch.specs.Named.{key_number, by_names}
 use Rattle.slot_watch.specs.Slots.{Slots, Turns}
