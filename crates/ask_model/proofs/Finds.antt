@@ -1,5 +1,5 @@
 -- Looking in one list of entries and then in another.
-use Rattle.std.proofs.Common.{◌≡◌, Bool, true, false, cond, ◌||◌, List, [], ◌∷◌, ◌++◌, ℕ, Option, Some, None, refl, ap, ◌∙◌}
+use Rattle.std.proofs.Common.{◌≡◌, Bool, true, false, cond, ◌||◌, List, [], ◌∷◌, ◌++◌, ℕ, Option, Some, None, refl, sym, ap, ◌∙◌}
 use Rattle.turk_base.specs.declared.Entry.{Entry}
 use Rattle.turk_base.specs.declared.Record.{Record}
 use Rattle.turk_base.specs.Trace.{at, below, same_list, begins}
@@ -58,3 +58,13 @@ nothing_is es p h = by_cases (at es p) (below es p) h refl refl
     by_cases (Some r) b h is low = absurd (cc)
     by_cases None true h is low = absurd (cc)
     by_cases None false h is low = (is, low)
+
+-- ---- a second list in which the same stands at a path, and below it
+
+pub at_same : (l m n : List Entry) (p : List ℕ) → at m p ≡ at n p → at (l ++ m) p ≡ at (l ++ n) p
+at_same l m n p is = at_both l m p ∙ ap (λ o. first_of (at l p) o) is ∙ sym (at_both l n p)
+
+pub known_same : (l m n : List Entry) (p : List ℕ) → at m p ≡ at n p → below m p ≡ below n p → known_at (l ++ m) p ≡ known_at (l ++ n) p
+known_same l m n p is low =
+    let lower : below (l ++ m) p ≡ below (l ++ n) p = below_both l m p ∙ ap (λ b. below l p || b) low ∙ sym (below_both l n p) in
+    ap (λ o. known_by o (below (l ++ m) p)) (at_same l m n p is) ∙ ap (λ b. known_by (at (l ++ n) p) b) lower

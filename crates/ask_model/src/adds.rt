@@ -1,11 +1,12 @@
 //! One record more in a table.
-ghost use Rattle.std.specs.Prelude.{◌≡◌, ◌+◌, ◌≤◌, ◌<◌, ◌≤ℤ◌, ℕ, pos, int_rem, Some, None, length, IfOk, IfErr, OnOk, vec_len, vec_capacity};
+ghost use Rattle.std.specs.Prelude.{◌≡◌, ◌+◌, ◌≤◌, ◌<◌, ◌≤ℤ◌, ℕ, pos, int_rem, Some, None, length, IfOk, IfErr, OnOk};
 ghost use Rattle.turk_base.specs.declared.Record.TheVariants.{Post, Reply, Once};
 ghost use Rattle.record_bytes.specs.Limits.{IsDraw};
 ghost use Rattle.ask_model.specs.Asker.{entry, stop_of};
 ghost use Rattle.ask_model.specs.Table.{Added, IsFull, Drew};
 
 use crate::AskStop;
+use crate::made::Made;
 use outside::Draws;
 use std::alloc::Global;
 use turk_base::{Data, Entry, NoMemory, Path, Record, Units, Whole};
@@ -14,24 +15,24 @@ use turk_base::{Data, Entry, NoMemory, Path, Record, Units, Whole};
 const MOST_RECORDS: usize = 65_536;
 
 // Makes room for one record more.
-fn make_room(traced: usize, made: &mut Vec<Entry>) -> Result<(), AskStop>
+fn make_room(traced: usize, made: &mut Made) -> Result<(), AskStop>
     requires few { traced + length made.old.items ≤ 65536 }
     ensures items { made.new.items ≡ made.old.items }
     ensures ok { OnOk result (traced + length made.old.items < 65536) }
-    ensures room { OnOk result (vec_len made.new < vec_capacity made.new) }
+    ensures room { OnOk result (0 < made.new.room) }
     ensures err { IfErr result (λ stop. IsFull traced made.old.items stop) }
 {
     if traced + made.len() >= MOST_RECORDS {
         return Err(AskStop::TraceFull);
     }
-    match made.reserve(1) {
+    match made.make_room() {
         Ok(()) => Ok(()),
         Err(_) => Err(AskStop::Memory),
     }
 }
 
 // Adds an entry.
-fn add(traced: usize, made: &mut Vec<Entry>, what: Entry) -> Result<(), AskStop>
+fn add(traced: usize, made: &mut Made, what: Entry) -> Result<(), AskStop>
     requires few { traced + length made.old.items ≤ 65536 }
     ensures { Added traced what made.old.items made.new.items (stop_of result) }
 {
@@ -55,7 +56,7 @@ pub fn entry_of(alloc: Global, path: &Path, what: Record) -> Result<Entry, NoMem
 fn add_record(
     alloc: Global,
     traced: usize,
-    made: &mut Vec<Entry>,
+    made: &mut Made,
     path: &Path,
     what: Record,
 ) -> Result<(), AskStop>
@@ -72,7 +73,7 @@ fn add_record(
 pub fn add_post(
     alloc: Global,
     traced: usize,
-    made: &mut Vec<Entry>,
+    made: &mut Made,
     path: &Path,
     text: &Units,
 ) -> Result<(), AskStop>
@@ -89,7 +90,7 @@ pub fn add_post(
 pub fn add_once(
     alloc: Global,
     traced: usize,
-    made: &mut Vec<Entry>,
+    made: &mut Made,
     path: &Path,
     value: &Data,
 ) -> Result<(), AskStop>
@@ -114,7 +115,7 @@ pub fn reply_of(alloc: Global, token: &Units, text: &Units) -> Result<Record, No
 pub fn add_reply(
     alloc: Global,
     traced: usize,
-    made: &mut Vec<Entry>,
+    made: &mut Made,
     path: &Path,
     token: &Units,
     text: &Units,
@@ -151,7 +152,7 @@ pub fn word_below<W: Draws>(draws: &mut W, bound: Whole) -> Whole
 pub fn add_draw<W: Draws>(
     alloc: Global,
     traced: usize,
-    made: &mut Vec<Entry>,
+    made: &mut Made,
     draws: &mut W,
     path: &Path,
     bound: Whole,

@@ -11,6 +11,7 @@ mod asked;
 mod asker;
 #[cfg(test)]
 mod asks;
+mod made;
 #[cfg(test)]
 mod recorder;
 mod scans;

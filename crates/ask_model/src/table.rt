@@ -6,6 +6,7 @@ ghost use Rattle.ask_model.specs.Table.{table};
 
 use crate::adds::{add_draw, add_once, add_post, add_reply};
 use crate::asked::Asked;
+use crate::made::Made;
 use crate::scans::{known_in, record_in};
 use crate::{AskStop, Asker, Known, Refused};
 use outside::Draws;
@@ -17,7 +18,7 @@ use turk_base::{Data, Entry, NoMemory, Path, Record, Replies, Units, Whole};
 pub struct TableAsker<'a, W: Draws> {
     alloc: Global,
     trace: Vec<Entry>,
-    made: Vec<Entry>,
+    made: Made,
     asked: Asked,
     replies: &'a Replies,
     draws: &'a mut W,
@@ -46,7 +47,7 @@ impl<'a, W: Draws> TableAsker<'a, W> {
             Ok(asked) => Ok(TableAsker {
                 alloc,
                 trace,
-                made: Vec::new(alloc),
+                made: Made::new(alloc),
                 asked,
                 replies,
                 draws,
@@ -98,12 +99,12 @@ impl<'a, W: Draws> Asker for TableAsker<'a, W> {
 
     fn known(&mut self, path: &Path) -> Known {
         self.asked.set(path);
-        known_in(self.trace.as_slice(), self.made.as_slice(), path)
+        known_in(self.trace.as_slice(), self.made.near(path.as_slice()), path)
     }
 
     fn kept(&self) -> Option<&Record> {
         match self.asked.path() {
-            Some(path) => record_in(self.trace.as_slice(), self.made.as_slice(), path),
+            Some(path) => record_in(self.trace.as_slice(), self.made.near(path), path),
             None => None,
         }
     }

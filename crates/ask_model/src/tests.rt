@@ -146,6 +146,34 @@ fn a_table_answers(rt: HostRuntime) -> Result<(), Fail> {
     Ok(())
 }
 
+// Whether what is drawn at paths in increasing and then in decreasing order is found, and nothing else.
+fn finds_in_any_order<A: Asker>(alloc: Global, asker: &mut A) -> Result<bool, AskStop>
+    requires sound { A.is_sound asker.old }
+    requires open { (A.seen asker.old).closed ≡ false }
+{
+    let first = draw_at(asker, &path_of(alloc, &[8, 1])?, Whole::from_u32(2))?;
+    let greatest = draw_at(asker, &path_of(alloc, &[9, 1])?, Whole::from_u32(2))?;
+    let less = draw_at(asker, &path_of(alloc, &[9, 0])?, Whole::from_u32(2))?;
+    let least = draw_at(asker, &path_of(alloc, &[8, 0])?, Whole::from_u32(2))?;
+    let made = first.is_some() && greatest.is_some() && less.is_some() && least.is_some();
+    let low = known_at(asker, alloc, &[8, 0]) == Some(Known::Here);
+    let high = known_at(asker, alloc, &[9, 1]) == Some(Known::Here);
+    let below = known_at(asker, alloc, &[9]) == Some(Known::Below);
+    let between = known_at(asker, alloc, &[8, 2]) == Some(Known::Nothing);
+    let longer = known_at(asker, alloc, &[9, 1, 0]) == Some(Known::Nothing);
+    Ok(made && low && high && below && between && longer)
+}
+
+#[test]
+fn a_table_finds_paths_in_any_order(rt: HostRuntime) -> Result<(), Fail> {
+    let alloc = rt.alloc();
+    let replies = one_reply(alloc)?;
+    let mut draws = PcgDraws::new();
+    let mut asker = TableAsker::new(alloc, Vec::new(alloc), &replies, &mut draws)?;
+    assert!(rt; matches!(finds_in_any_order(alloc, &mut asker), Ok(true)));
+    Ok(())
+}
+
 // Whether one draw is made, and then a reply is refused but not asked where there is none.
 fn fills_up<A: Asker>(alloc: Global, asker: &mut A) -> Result<bool, AskStop>
     requires sound { A.is_sound asker.old }
