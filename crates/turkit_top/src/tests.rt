@@ -273,6 +273,26 @@ fn each_row_comes_to_its_answer(rt: HostRuntime) -> Result<(), Fail> {
     Ok(())
 }
 
+#[test]
+fn a_run_makes_so_many_records_and_no_more(rt: HostRuntime) -> Result<(), Fail> {
+    let table = [
+        prints(
+            b"for (var i = 0; i < 65536; i++) random(2); print(i);",
+            b"65536\n",
+        ),
+        comes_to(
+            b"for (var i = 0; i < 65537; i++) random(2); print(i);",
+            Status::Full,
+            b"",
+            b"trace full\n",
+        ),
+    ];
+    for row in &table {
+        assert!(rt; is_met(rt.alloc(), row)?);
+    }
+    Ok(())
+}
+
 /// A script that repeats a text, what follows it, and the note that is to come.
 #[derive(Drop)]
 struct Long {
