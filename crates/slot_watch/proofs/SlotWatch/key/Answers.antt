@@ -1,5 +1,4 @@
-use Rattle.std.proofs.Common.{◌≡◌, ap, ◌∙◌, sym}
-use Rattle.turk_base.specs.Names.{shape}
+use Rattle.std.proofs.Common.{ap, ◌∙◌, sym}
 use Rattle.slot_watch.specs.Keys.{part_in}
 use Rattle.slot_watch.proofs.Naming.{when_none, no_part}
 use Rattle.slot_watch.proofs.SlotWatch.key.Goals as goal
