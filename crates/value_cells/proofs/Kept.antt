@@ -1,5 +1,5 @@
 -- What a call of Cells needs, over the fields and what a contract sees of them.
-use Rattle.std.proofs.Common.{◌≡◌, ◌∙◌, subst, ap, refl, sym, ℕ, suc, nat_eq, ◌≤◌, ◌<◌, List, [], ◌∷◌, ◌++◌, length, set, map, get_or, Option, Some, None, IsSome, is_some, true≢false, slice_get, arith, option_map, option_copied, option_to_list, IfSome, IfNone, Vec}
+use Rattle.std.proofs.Common.{◌≡◌, ◌∙◌, subst, ap, refl, sym, ℕ, zero, suc, nat_eq, ◌≤◌, ◌<◌, List, [], ◌∷◌, ◌++◌, length, set, map, get_or, Option, Some, None, IsSome, is_some, true≢false, slice_get, take, drop, arith, option_map, option_copied, option_to_list, IfSome, IfNone, Result, Ok, Err, OnErr, Vec}
 use Rattle.std.specs.Borrow.{Bor}
 use Rattle.std.specs.List.{IsDistinct}
 use Rattle.std.specs.declared.alloc.Global.{Global}
@@ -13,8 +13,13 @@ use Rattle.value_cells.specs.declared.Cells.TheInside.{Inside}
 use Rattle.value_cells.specs.Needs.{needs, kind_needs, props_needs}
 use Rattle.value_cells.specs.Held.{Cell, Held, Props, Key, key_eq, count, names_of, kinds_of, props_in, props_at, with_props, IsWhole}
 use Rattle.value_cells.specs.Named.{Entries, key_in, named, AreNumbers, cell_of, stored, IsNumbered}
-use Rattle.value_cells.specs.Stored.{held, IsGood}
-use Rattle.value_cells.proofs.Lists.{whole-pushed, get_last, get_front, lookup-needs, set-needs, push-needs, remove-needs, set-with, whole-with}
+use Rattle.value_cells.specs.declared.history.History.{History}
+use Rattle.value_cells.specs.declared.history.Step.{Step}
+use Rattle.value_cells.specs.declared.history.Point.{Point}
+use Rattle.value_cells.specs.Stored.{past, held, AreKept, IsGood}
+use Rattle.value_cells.specs.Undone.{before, befores, put, AreNested}
+use Rattle.value_cells.proofs.Lists.{pushed, whole-pushed, get_last, get_front, lookup-needs, set-needs, push-needs, remove-needs, set-with, whole-with}
+use Rattle.value_cells.proofs.Undone.{changed-at, now-point, opened, nested-open, given-back, taken, ordered, p-at, length-undone, length-take, made-past}
 use Rattle.value_cells.proofs.Named.{text_is, has_text, lookup_named, lookup_none, set_named, remove_named, push_named, numbers_set, numbers_remove, numbers_push, number_at, key_named, distinct_named, all_set, stored_more, all_more}
 
 module _ (a : Inside) (h : Held) (view : held a ≡ h) (good : IsGood a) where
@@ -25,7 +30,7 @@ module _ (a : Inside) (h : Held) (view : held a ≡ h) (good : IsGood a) where
   count-told = sym (length-map a.cells.items (cell_of a.keys)) ∙ ap length now-is
 
   pub whole-told : IsWhole h.now
-  whole-told = subst IsWhole now-is good.now
+  whole-told = subst IsWhole now-is good.now.whole
 
   -- a key without a number is missing everywhere
   pub no-own : (i : ℕ) (key : Key) → HasNone a.keys key → lookup (key_eq key) (props_at h.now i) ≡ None
@@ -35,10 +40,10 @@ module _ (a : Inside) (h : Held) (view : held a ≡ h) (good : IsGood a) where
     where
       by : (o : Option CellData) → slice_get a.cells.items i ≡ o → lookup (key_eq key) (props_in (option_map (cell_of a.keys) o)) ≡ None
       by None e = refl
-      by (Some d) e = lookup_none a.keys key none d.props (good.numbers.each i d e)
+      by (Some d) e = lookup_none a.keys key none d.props (good.now.numbers.each i d e)
 
   module _ (i : ℕ) (d : CellData) (here : i < count h.now) (at : d ≡ get_or a.cells.items i d) where
-    data-is : slice_get a.cells.items i ≡ Some d
+    pub data-is : slice_get a.cells.items i ≡ Some d
     data-is = slice_get_read a.cells.items (length a.cells.items) i d refl (omega (arith, count-told, here)) at
 
     pub cell-is : slice_get h.now i ≡ Some (cell_of a.keys d)
@@ -57,7 +62,7 @@ module _ (a : Inside) (h : Held) (view : held a ≡ h) (good : IsGood a) where
     props-told = ap props_in cell-is
 
     pub numbers-told : AreNumbers a.keys d.props
-    numbers-told = good.numbers.each i d data-is
+    numbers-told = good.now.numbers.each i d data-is
 
     props-exist : props_needs (named a.keys d.props) ≤ count h.now
     props-exist = whole-told.exist i (cell_of a.keys d) cell-is
@@ -86,7 +91,7 @@ module _ (a : Inside) (h : Held) (view : held a ≡ h) (good : IsGood a) where
     whole-same = subst IsWhole (sym same-told) whole-told
 
     pub numbers-same : IsNumbered a.keys (set a.cells.items i (record d { props = d.props }))
-    numbers-same = all_set a.keys a.cells.items i (record d { props = d.props }) good.numbers numbers-told
+    numbers-same = all_set a.keys a.cells.items i (record d { props = d.props }) good.now.numbers numbers-told
 
     pub distinct-told : IsDistinct nat_eq (keys_of d.props) → IsDistinct key_eq (keys_of (props_at h.now i))
     distinct-told apart = subst (λ ps. IsDistinct key_eq (keys_of ps)) (sym props-told) (distinct_named a.keys good.distinct d.props numbers-told apart)
@@ -105,7 +110,7 @@ module _ (a : Inside) (h : Held) (view : held a ≡ h) (good : IsGood a) where
       whole-written v k = whole-changed (set_value (nat_eq n) d.props v) (set_value (key_eq key) (named a.keys d.props) v) (set_named a.keys good.distinct key n has d.props v numbers-told) (set-needs (key_eq key) (named a.keys d.props) v (count h.now) props-exist k)
 
       pub numbers-written : (v : Value) → IsNumbered a.keys (set a.cells.items i (record d { props = set_value (nat_eq n) d.props v }))
-      numbers-written v = all_set a.keys a.cells.items i (record d { props = set_value (nat_eq n) d.props v }) good.numbers (numbers_set a.keys (nat_eq n) d.props v numbers-told)
+      numbers-written v = all_set a.keys a.cells.items i (record d { props = set_value (nat_eq n) d.props v }) good.now.numbers (numbers_set a.keys (nat_eq n) d.props v numbers-told)
 
       pub created : (v : Value) → stored a.keys (set a.cells.items i (record d { props = d.props ++ (n, v) ∷ [] })) ≡ with_props h.now i (props_at h.now i ++ (key, v) ∷ [])
       created v = changed (d.props ++ (n, v) ∷ []) ∙ ap (with_props h.now i) (push_named a.keys good.distinct key n has d.props v ∙ ap (λ ps. ps ++ (key, v) ∷ []) (sym props-told))
@@ -114,7 +119,7 @@ module _ (a : Inside) (h : Held) (view : held a ≡ h) (good : IsGood a) where
       whole-created v k = whole-changed (d.props ++ (n, v) ∷ []) (named a.keys d.props ++ (key, v) ∷ []) (push_named a.keys good.distinct key n has d.props v) (push-needs (named a.keys d.props) key v (count h.now) props-exist k)
 
       pub numbers-created : (v : Value) → IsNumbered a.keys (set a.cells.items i (record d { props = d.props ++ (n, v) ∷ [] }))
-      numbers-created v = all_set a.keys a.cells.items i (record d { props = d.props ++ (n, v) ∷ [] }) good.numbers (numbers_push a.keys d.props n v numbers-told (has_text a.keys key n has))
+      numbers-created v = all_set a.keys a.cells.items i (record d { props = d.props ++ (n, v) ∷ [] }) good.now.numbers (numbers_push a.keys d.props n v numbers-told (has_text a.keys key n has))
 
       pub deleted : stored a.keys (set a.cells.items i (record d { props = remove_entry (nat_eq n) d.props })) ≡ with_props h.now i (remove_entry (key_eq key) (props_at h.now i))
       deleted = changed (remove_entry (nat_eq n) d.props) ∙ ap (with_props h.now i) (remove_named a.keys good.distinct key n has d.props numbers-told ∙ ap (remove_entry (key_eq key)) (sym props-told))
@@ -123,7 +128,21 @@ module _ (a : Inside) (h : Held) (view : held a ≡ h) (good : IsGood a) where
       whole-deleted = whole-changed (remove_entry (nat_eq n) d.props) (remove_entry (key_eq key) (named a.keys d.props)) (remove_named a.keys good.distinct key n has d.props numbers-told) (remove-needs (key_eq key) (named a.keys d.props) (count h.now) props-exist)
 
       pub numbers-deleted : IsNumbered a.keys (set a.cells.items i (record d { props = remove_entry (nat_eq n) d.props }))
-      numbers-deleted = all_set a.keys a.cells.items i (record d { props = remove_entry (nat_eq n) d.props }) good.numbers (numbers_remove a.keys (nat_eq n) d.props numbers-told)
+      numbers-deleted = all_set a.keys a.cells.items i (record d { props = remove_entry (nat_eq n) d.props }) good.now.numbers (numbers_remove a.keys (nat_eq n) d.props numbers-told)
+
+    -- it is the only one there
+    pub data-same : (k : CellData) → k ≡ get_or a.cells.items i k → k ≡ d
+    data-same k e = by (sym (slice_get_read a.cells.items (length a.cells.items) i k refl (omega (arith, count-told, here)) e) ∙ data-is)
+      where
+        by : Some k ≡ Some d → k ≡ d
+        by e = cc
+
+    -- what there was at the marks, where the cell gets other properties
+    pub past-put : (ss : List Step) (ps : List Point) (es : Entries) → befores ss ps (put i es a.cells.items) ≡ past a → befores ss ps (set a.cells.items i (record d { props = es })) ≡ past a
+    past-put ss ps es e = ap (befores ss ps) (changed-at (λ _. es) a.cells.items i d data-is) ∙ e
+
+    pub past-back : (ss : List Step) (ps : List Point) → befores ss ps a.cells.items ≡ past a → befores ss ps (set a.cells.items i (record d { props = d.props })) ≡ past a
+    past-back ss ps e = ap (befores ss ps) (ap (set a.cells.items i) at ∙ set-get_or a.cells.items i d) ∙ e
 
   -- a cell without properties is added
   module _ (d : CellData) (none : d.props ≡ []) where
@@ -132,6 +151,10 @@ module _ (a : Inside) (h : Held) (view : held a ≡ h) (good : IsGood a) where
 
     pub whole-made : kind_needs d.kind ≤ count h.now → ((i : ℕ) → slice_get (names_of h.now) i ≡ Some d.name → ⊥) → IsWhole (stored a.keys (a.cells.items ++ d ∷ []))
     whole-made kind fresh = subst IsWhole (sym made) (whole-pushed h.now (record { name = d.name; kind = d.kind; props = [] }) whole-told kind refl fresh)
+
+pub on-err : {A E P : Type 0} (r : Result A E) → P → OnErr r P
+on-err (Ok a) p = tt
+on-err (Err e) p = p
 
 pub both : {A : Type 0} (o : Option A) → IsSome o → o ≡ None → ⊥
 both o some none = true≢false (sym some ∙ ap is_some none)
@@ -148,52 +171,158 @@ key-read keys n (Some k) h some none = ap Some (sym (text_is keys k.now n some))
 
 -- ---- marks
 
-abbrev AllWhole : List Key → List (Vec CellData Global) → Type 0
-AllWhole keys ms = (i : ℕ) (cells : List Cell) → slice_get (map (λ m. stored keys m.items) ms) i ≡ Some cells → IsWhole cells
+abbrev pub AllKept : List Key → List (List CellData) → Type 0
+AllKept keys past = (i : ℕ) (ds : List CellData) → slice_get past i ≡ Some ds → AreKept keys ds
 
-abbrev AllNumbered : List Key → List (Vec CellData Global) → Type 0
-AllNumbered keys ms = (i : ℕ) (m : Vec CellData Global) → slice_get ms i ≡ Some m → IsNumbered keys m.items
+module _ (keys : List Key) (all first : List (List CellData)) (last : List CellData) (is : all ≡ first ++ last ∷ []) (kept : AllKept keys all) where
+  pub last-kept : AreKept keys last
+  last-kept = kept (length first) last (ap (λ l. slice_get l (length first)) is ∙ get_last first last)
 
-module _ (keys : List Key) (all ms : List (Vec CellData Global)) where
-  pub last-whole : AllWhole keys all → (m : Vec CellData Global) → all ≡ ms ++ m ∷ [] → IsWhole (stored keys m.items)
-  last-whole h m e = h (length ms) (stored keys m.items)
-      (slice_get-map (λ m. stored keys m.items) all (length ms) ∙ ap (option_map (λ m. stored keys m.items)) (ap (λ l. slice_get l (length ms)) e ∙ get_last ms m))
+  pub first-kept : AllKept keys first
+  first-kept i ds e = kept i ds (ap (λ l. slice_get l i) is ∙ get_front first (last ∷ []) i ds e)
 
-  pub first-whole : AllWhole keys all → (more : List (Vec CellData Global)) → all ≡ ms ++ more → AllWhole keys ms
-  first-whole h more e i cells at = h i cells
-      (ap (λ l. slice_get (map (λ m. stored keys m.items) l) i) e ∙ ap (λ l. slice_get l i) (map-append (λ m. stored keys m.items) ms more) ∙ get_front (map (λ m. stored keys m.items) ms) (map (λ m. stored keys m.items) more) i cells at)
+-- what stays where the history has more steps and the same marks
+module _ (a : Inside) (good : IsGood a) (ss : List Step) (ps : List Point) (same : ps ≡ a.history.marks.items) where
+  pub nested-more : length a.history.steps.items ≤ length ss → AreNested (length ss) ps
+  nested-more more = subst (AreNested (length ss)) (sym same) (record { fewer = λ i p e. let h = good.nested.fewer i p e in omega (arith, h, more); later = good.nested.later })
 
-  pub last-numbered : AllNumbered keys all → (m : Vec CellData Global) → all ≡ ms ++ m ∷ [] → IsNumbered keys m.items
-  last-numbered h m e = h (length ms) m (ap (λ l. slice_get l (length ms)) e ∙ get_last ms m)
+  pub within-more : (n : ℕ) → length a.cells.items ≤ n → (i : ℕ) (p : Point) → slice_get ps i ≡ Some p → p.cells ≤ n
+  within-more n long i p e = let h = good.within i p (ap (λ l. slice_get l i) (sym same) ∙ e) in omega (arith, h, long)
 
-  pub first-numbered : AllNumbered keys all → (more : List (Vec CellData Global)) → all ≡ ms ++ more → AllNumbered keys ms
-  first-numbered h more e i m at = h i m (ap (λ l. slice_get l i) e ∙ get_front ms more i m at)
+  pub kept-same : (ds : List CellData) → befores ss ps ds ≡ past a → AllKept a.keys (befores ss ps ds)
+  kept-same ds e = subst (AllKept a.keys) (sym e) good.marks
 
--- what was kept at the mark that is closed
-pub closed : (keys : List Key) (marks : List (List Cell)) (all ms : List (Vec CellData Global)) (o : Option (Vec CellData Global)) → map (λ m. stored keys m.items) all ≡ marks → all ≡ ms ++ option_to_list o
-    → (0 < length all → IsSome o) → 0 < length marks → (saved : List Cell) × (marks ≡ map (λ m. stored keys m.items) ms ++ saved ∷ [])
-closed keys marks all ms o view items some many = by o items (some (omega (arith, many, ap length view, length-map all (λ (m : Vec CellData Global). stored keys m.items))))
+pub good-changed : (a : Inside) → IsGood a → (v : Vec CellData Global) (h : History) → AreKept a.keys v.items → befores h.steps.items h.marks.items v.items ≡ past a → h.marks.items ≡ a.history.marks.items
+    → length a.history.steps.items ≤ length h.steps.items → length a.cells.items ≤ length v.items → IsGood (record a { cells = v; history = h })
+good-changed a good v h kept same marks more long = record {
+  now = kept;
+  marks = kept-same a good h.steps.items h.marks.items marks v.items same;
+  distinct = good.distinct;
+  nested = nested-more a good h.steps.items h.marks.items marks more;
+  within = within-more a good h.steps.items h.marks.items marks (length v.items) long;
+}
+
+-- what stays where the history has the same steps and marks
+module _ (a : Inside) (good : IsGood a) (h : History) (steps : h.steps.items ≡ a.history.steps.items) (marks : h.marks.items ≡ a.history.marks.items) where
+  past-same : befores h.steps.items h.marks.items a.cells.items ≡ past a
+  past-same = λ i. befores (steps i) (marks i) a.cells.items
+
+  pub good-same : IsGood (record a { history = h })
+  good-same = good-changed a good a.cells h good.now past-same marks (let e = ap length steps in omega (arith, e)) (omega arith)
+
+  pub seen-same : held (record a { history = h }) ≡ held a
+  seen-same = λ i. record { now = stored a.keys a.cells.items; marks = map (stored a.keys) (past-same i) }
+
+-- a mark is set
+past-marked : (a : Inside) (h : History) → h.steps.items ≡ a.history.steps.items → h.marks.items ≡ a.history.marks.items ++ now-point a.history.steps.items a.history.marks.items a.cells.items ∷ []
+    → befores h.steps.items h.marks.items a.cells.items ≡ past a ++ a.cells.items ∷ []
+past-marked a h steps marks = (λ i. befores (steps i) (marks i) a.cells.items) ∙ opened a.history.steps.items a.history.marks.items a.cells.items
+
+pub good-marked : (a : Inside) → IsGood a → (h : History) → h.steps.items ≡ a.history.steps.items → h.marks.items ≡ a.history.marks.items ++ now-point a.history.steps.items a.history.marks.items a.cells.items ∷ []
+    → IsGood (record a { history = h })
+good-marked a good h steps marks = record {
+  now = good.now;
+  marks = subst (AllKept a.keys) (sym (past-marked a h steps marks)) (pushed (λ i ds. AreKept a.keys ds) (past a) a.cells.items good.marks good.now);
+  distinct = good.distinct;
+  nested = subst (AreNested (length h.steps.items)) (sym marks) (subst (λ ss. AreNested (length ss) (a.history.marks.items ++ now-point a.history.steps.items a.history.marks.items a.cells.items ∷ [])) (sym steps)
+      (nested-open a.history.steps.items a.history.marks.items a.cells.items good.nested good.within));
+  within = λ i p e. pushed (λ i p. p.cells ≤ length a.cells.items) a.history.marks.items (now-point a.history.steps.items a.history.marks.items a.cells.items) good.within (omega arith) i p (ap (λ l. slice_get l i) (sym marks) ∙ e);
+}
+
+pub seen-marked : (a : Inside) (h : History) → h.steps.items ≡ a.history.steps.items → h.marks.items ≡ a.history.marks.items ++ now-point a.history.steps.items a.history.marks.items a.cells.items ∷ []
+    → map (stored a.keys) (befores h.steps.items h.marks.items a.cells.items) ≡ map (stored a.keys) (past a) ++ stored a.keys a.cells.items ∷ []
+seen-marked a h steps marks = ap (map (stored a.keys)) (past-marked a h steps marks) ∙ map-append (stored a.keys) (past a) (a.cells.items ∷ [])
+
+pub set-long : (ds : List CellData) (i : ℕ) (d : CellData) → length (set ds i d) ≡ length ds
+set-long [] i d = refl
+set-long (c ∷ ds) zero d = refl
+set-long (c ∷ ds) (suc i) d = ap suc (set-long ds i d)
+
+-- the newest mark is closed
+module _ (a : Inside) (good : IsGood a) (ps : List Point) (q : Point) (is : a.history.marks.items ≡ ps ++ q ∷ []) where
+  abbrev pub then : List CellData
+  then = before a.history.steps.items a.cells.items q
+
+  past-is : past a ≡ befores a.history.steps.items ps a.cells.items ++ then ∷ []
+  past-is = given-back a.history.steps.items a.history.marks.items ps q a.cells.items good.nested is
+
+  front-kept : AllKept a.keys (befores a.history.steps.items ps a.cells.items)
+  front-kept = first-kept a.keys (past a) (befores a.history.steps.items ps a.cells.items) then past-is good.marks
+
+  then-long : length then ≡ q.cells
+  then-long = length-undone (drop q.steps a.history.steps.items) (take q.cells a.cells.items)
+      ∙ length-take q.cells a.cells.items (good.within (length ps) q (ap (λ l. slice_get l (length ps)) is ∙ get_last ps q))
+
+  module _ (h : History) (marks : h.marks.items ≡ ps) (nested : AreNested (length h.steps.items) h.marks.items) where
+    pub good-kept : ((ds : List CellData) → befores h.steps.items h.marks.items ds ≡ befores a.history.steps.items ps ds) → IsGood (record a { history = h })
+    good-kept same = record {
+      now = good.now;
+      marks = subst (AllKept a.keys) (sym (same a.cells.items)) front-kept;
+      distinct = good.distinct;
+      nested = nested;
+      within = λ i p e. good.within i p (p-at a.history.steps.items a.history.marks.items ps q a.cells.items good.nested is i p (ap (λ l. slice_get l i) (sym marks) ∙ e));
+    }
+
+    pub seen-kept : ((ds : List CellData) → befores h.steps.items h.marks.items ds ≡ befores a.history.steps.items ps ds)
+        → map (stored a.keys) (past a) ≡ map (stored a.keys) (befores h.steps.items h.marks.items a.cells.items) ++ stored a.keys then ∷ []
+    seen-kept same = ap (map (stored a.keys)) past-is ∙ map-append (stored a.keys) (befores a.history.steps.items ps a.cells.items) (then ∷ [])
+        ∙ (λ i. map (stored a.keys) (sym (same a.cells.items) i) ++ stored a.keys then ∷ [])
+
+    module _ (v : Vec CellData Global) (back : v.items ≡ then) (same : (ds : List CellData) → befores h.steps.items h.marks.items ds ≡ befores (take q.steps a.history.steps.items) ps ds) where
+      same-past : befores h.steps.items h.marks.items v.items ≡ befores a.history.steps.items ps a.cells.items
+      same-past = same v.items ∙ ap (befores (take q.steps a.history.steps.items) ps) back ∙ taken a.history.steps.items a.history.marks.items ps q a.cells.items good.nested is
+
+      pub good-taken : IsGood (record a { cells = v; history = h })
+      good-taken = record {
+        now = subst (AreKept a.keys) (sym back) (last-kept a.keys (past a) (befores a.history.steps.items ps a.cells.items) then past-is good.marks);
+        marks = subst (AllKept a.keys) (sym same-past) front-kept;
+        distinct = good.distinct;
+        nested = nested;
+        within = λ i p e.
+            let o = (ordered a.history.steps.items a.history.marks.items ps q a.cells.items good.nested is i p (ap (λ l. slice_get l i) (sym marks) ∙ e)).0 in let long = ap length back in
+            omega (arith, o, long, then-long);
+      }
+
+      pub seen-taken : map (stored a.keys) (past a) ≡ map (stored a.keys) (befores h.steps.items h.marks.items v.items) ++ stored a.keys v.items ∷ []
+      seen-taken = ap (map (stored a.keys)) past-is ∙ map-append (stored a.keys) (befores a.history.steps.items ps a.cells.items) (then ∷ [])
+          ∙ (λ i. map (stored a.keys) (sym same-past i) ++ stored a.keys (sym back i) ∷ [])
+
+-- the mark that was taken out of the list
+pub popped : (all ps : List Point) (o : Option Point) → all ≡ ps ++ option_to_list o → IsSome o → (q : Point) × (all ≡ ps ++ q ∷ [])
+popped all ps (Some q) e some = (q, e)
+popped all ps None e some = absurd (true≢false (sym some))
+
+-- as many marks are open as a contract sees
+pub marks-long : (a : Inside) (h : Held) → held a ≡ h → length h.marks ≡ length a.history.marks.items
+marks-long a h view = ap (λ h. length h.marks) (sym view) ∙ length-map (past a) (stored a.keys) ∙ length-map a.history.marks.items (before a.history.steps.items a.cells.items)
+
+-- no mark was open
+pub no-marks : (a : Inside) (h : Held) → held a ≡ h → h.marks ≡ [] → a.history.marks.items ≡ []
+no-marks a h view none = by a.history.marks.items (ap (λ h. h.marks) view ∙ none)
   where
-    by : (o : Option (Vec CellData Global)) → all ≡ ms ++ option_to_list o → IsSome o → (saved : List Cell) × (marks ≡ map (λ m. stored keys m.items) ms ++ saved ∷ [])
-    by (Some m) e s = (stored keys m.items, sym view ∙ ap (map (λ m. stored keys m.items)) e ∙ map-append (λ m. stored keys m.items) ms (m ∷ []))
-    by None e s = absurd (true≢false (sym s))
+    by : (ps : List Point) → map (stored a.keys) (befores a.history.steps.items ps a.cells.items) ≡ [] → ps ≡ []
+    by [] e = refl
+    by (p ∷ ps) e = cc
 
 -- ---- more keys
 
-marks-more : (old new : List Key) → Grows old new → (ms : List (Vec CellData Global)) → AllNumbered old ms → map (λ m. stored new m.items) ms ≡ map (λ m. stored old m.items) ms
-marks-more old new g [] h = refl
-marks-more old new g (m ∷ ms) h = λ i. stored_more old new g m.items (h 0 m refl) i ∷ marks-more old new g ms (λ j. h (suc j)) i
+kept-more : (old new : List Key) → Grows old new → (ds : List CellData) → AreKept old ds → AreKept new ds
+kept-more old new g ds h = record { whole = subst IsWhole (sym (stored_more old new g ds h.numbers)) h.whole; numbers = all_more old new g ds h.numbers }
+
+past-more : (old new : List Key) → Grows old new → (all : List (List CellData)) → AllKept old all → map (stored new) all ≡ map (stored old) all
+past-more old new g [] h = refl
+past-more old new g (ds ∷ all) h = λ i. stored_more old new g ds (h 0 ds refl).numbers i ∷ past-more old new g all (λ j. h (suc j)) i
 
 -- they leave what a contract sees
 module _ (a : Inside) (good : IsGood a) (keys : List Key) (grows : Grows a.keys keys) where
   pub same-seen : held (record a { keys = keys }) ≡ held a
-  same-seen = λ i. record { now = stored_more a.keys keys grows a.cells.items good.numbers i; marks = marks-more a.keys keys grows a.marks.items good.marked i }
+  same-seen = λ i. record { now = stored_more a.keys keys grows a.cells.items good.now.numbers i; marks = past-more a.keys keys grows (past a) good.marks i }
 
   pub good-more : AreDistinct keys → IsGood (record a { keys = keys })
   good-more distinct = record {
-    now = subst IsWhole (sym (stored_more a.keys keys grows a.cells.items good.numbers)) good.now;
-    marks = λ i cells e. good.marks i cells (ap (λ l. slice_get l i) (sym (marks-more a.keys keys grows a.marks.items good.marked)) ∙ e);
+    now = kept-more a.keys keys grows a.cells.items good.now;
+    marks = λ i ds e. kept-more a.keys keys grows ds (good.marks i ds e);
     distinct = distinct;
-    numbers = all_more a.keys keys grows a.cells.items good.numbers;
-    marked = λ i m e. all_more a.keys keys grows m.items (good.marked i m e);
+    nested = good.nested;
+    within = good.within;
   }

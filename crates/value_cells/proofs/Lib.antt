@@ -2,3 +2,4 @@ mod Kept
 pub mod Lists
 mod Named
 pub mod Turns
+mod Undone

@@ -5,3 +5,4 @@ pub mod Named
 pub mod Needs
 pub mod Seen
 pub mod Stored
+pub mod Undone

@@ -6,6 +6,7 @@ ghost use Rattle.std.specs.Map.{set_value, remove_entry, keys_of};
 ghost use Rattle.value_cells.specs.Needs.{needs, kind_needs};
 ghost use Rattle.value_cells.specs.Held.{Cell, count, names_of, kinds_of, props_at, own, key_eq, with_props, IsWhole};
 
+use crate::history::History;
 use crate::{CellData, CellKind, CellName, Cells, Mark, Value};
 use key_table::KeyTable;
 use object_props::Props;
@@ -22,7 +23,7 @@ impl Cells {
             alloc,
             keys: KeyTable::new(alloc),
             cells: Vec::new(alloc),
-            marks: Vec::new(alloc),
+            history: History::new(alloc),
         }
     }
 
@@ -110,6 +111,8 @@ impl Cells {
         let Some(number) = self.keys.find(key) else {
             unreachable!()
         };
+        let kept = &self.cells[cell as usize];
+        self.history.note_write(self.alloc, cell, kept, number)?;
         let data = &mut self.cells[cell as usize];
         let _ = data.props.set(&number, value);
         Ok(())
@@ -126,6 +129,7 @@ impl Cells {
     {
         let number = self.keys.number(self.alloc, &key)?;
         self.keys.known();
+        self.history.note_create(cell, number)?;
         let data = &mut self.cells[cell as usize];
         let place = data.props.len();
         match data.props.insert_at(place, number, value) {
@@ -145,6 +149,8 @@ impl Cells {
         let Some(number) = self.keys.find(key) else {
             unreachable!()
         };
+        let kept = &self.cells[cell as usize];
+        self.history.note_all(self.alloc, cell, kept)?;
         let data = &mut self.cells[cell as usize];
         let _ = data.props.delete(&number);
         Ok(())
@@ -181,13 +187,8 @@ impl Cells {
         ensures err { OnErr result (self.new.marks ≡ self.old.marks) }
         ensures now { self.new.now ≡ self.old.now }
     {
-        let copy = copy_cells(self.alloc, self.cells.as_slice())?;
-        match self.marks.push(copy) {
-            Ok(()) => Ok(Mark {
-                open: self.marks.len(),
-            }),
-            Err(_) => Err(NoMemory),
-        }
+        let open = self.history.set_mark(self.cells.len())?;
+        Ok(Mark { open })
     }
 
     /// Closes the newest open mark, and gives the cells as they were when it was set: cells made
@@ -198,10 +199,12 @@ impl Cells {
         requires newest { mark ≡ length self.old.marks }
         ensures { self.old.marks ≡ self.new.marks ++ self.new.now ∷ [] }
     {
-        match self.marks.pop() {
-            Some(saved) => self.cells = saved,
-            None => {}
-        }
+        let Some(point) = self.history.marks.pop() else {
+            unreachable!()
+        };
+        self.cells.truncate(point.cells);
+        self.history.undo_since(point.steps, &mut self.cells);
+        self.history.settle(self.alloc);
     }
 
     /// Closes the newest open mark, and leaves the cells. What was done since can still be taken back
@@ -212,43 +215,7 @@ impl Cells {
         ensures now { self.new.now ≡ self.old.now }
         ensures closed { (saved : List Cell) × (self.old.marks ≡ self.new.marks ++ saved ∷ []) }
     {
-        let _ = self.marks.pop();
+        let _ = self.history.marks.pop();
+        self.history.settle(self.alloc);
     }
-}
-
-/// Equal cells.
-fn copy_cells(alloc: Global, cells: &[CellData]) -> Result<Vec<CellData>, NoMemory>
-    ensures { IfOk result (λ copy. copy.items ≡ cells.now) }
-{
-    let mut copy = Vec::new(alloc);
-    for data in cells {
-        let next = CellData {
-            name: data.name.copy(alloc)?,
-            kind: data.kind,
-            props: copy_props(alloc, &data.props)?,
-        };
-        match copy.push(next) {
-            Ok(()) => {}
-            Err(_) => return Err(NoMemory),
-        }
-    }
-    Ok(copy)
-}
-
-/// Equal properties.
-fn copy_props(alloc: Global, props: &Props<u32, Value>) -> Result<Props<u32, Value>, NoMemory>
-    ensures { IfOk result (λ copy. copy ≡ props.now) }
-{
-    let mut copy = Props::new(alloc);
-    for place in 0..props.len() {
-        let Some((key, value)) = props.pair_at(place) else {
-            unreachable!()
-        };
-        let value = value.copy(alloc)?;
-        match copy.insert_at(place, *key, value) {
-            Ok(()) => {}
-            Err(_) => return Err(NoMemory),
-        }
-    }
-    Ok(copy)
 }

@@ -10,6 +10,7 @@ ghost use Rattle.value_cells.specs.Needs.{needs, option_needs, kind_needs};
 ghost use Rattle.value_cells.specs.Seen.{Seen, count, val_in, kind_in};
 ghost use Rattle.value_cells.specs.Does.{Does, told, Says};
 
+use crate::history::History;
 use key_table::KeyTable;
 use object_props::Props;
 use std::alloc::Global;
@@ -17,6 +18,7 @@ use std::marker::Model;
 use turk_base::{Path, Units, Whole};
 
 mod cell_calls;
+mod history;
 #[cfg(test)]
 mod tests;
 mod values;
@@ -77,13 +79,13 @@ struct CellData {
 /// cell names another that isn't there.
 ///
 /// Each key's text is kept once, for as long as the cells: a key that no cell has any more keeps its
-/// number.
+/// number. A mark copies nothing: while one is open, what undoes each change is kept.
 #[derive(Drop)]
 pub struct Cells {
     alloc: Global,
     keys: KeyTable,
     cells: Vec<CellData>,
-    marks: Vec<Vec<CellData>>,
+    history: History,
 }
 
 impl Model for Cells {

@@ -136,6 +136,43 @@ fn takes_back_and_keeps(rt: HostRuntime) -> Result<(), Fail> {
     Ok(())
 }
 
+/// Deletes a key of the cell under a mark, writes another, and takes both back.
+fn tries(cells: &mut Cells, gone: &Units, set: &Units) -> bool
+    ensures { cells.new.marks ≡ cells.old.marks }
+{
+    let Ok(mark) = cells.mark() else {
+        return false;
+    };
+    let done = delete(cells, 0, gone) && write(cells, 0, set, 9);
+    cells.take_back(mark);
+    done
+}
+
+#[test]
+fn saves_properties_again(rt: HostRuntime) -> Result<(), Fail> {
+    let alloc = rt.alloc();
+    let (a, b) = (
+        Units::from_slice(alloc, &[97])?,
+        Units::from_slice(alloc, &[98])?,
+    );
+    let mut cells = Cells::new(alloc);
+    assert!(rt; make(alloc, &mut cells, 0));
+    assert!(rt; create(&mut cells, 0, a.copy(alloc)?, 1));
+    assert!(rt; create(&mut cells, 0, b.copy(alloc)?, 2));
+    assert!(rt; tries(&mut cells, &a, &b));
+    assert!(rt; shows(alloc, &cells, 0, &[97, 1, 98, 2])?);
+    let outer = cells.mark()?;
+    assert!(rt; write(&mut cells, 0, &b, 3));
+    assert!(rt; tries(&mut cells, &b, &a));
+    assert!(rt; delete(&mut cells, 0, &a));
+    assert!(rt; create(&mut cells, 0, a.copy(alloc)?, 4));
+    assert!(rt; tries(&mut cells, &a, &b));
+    assert!(rt; shows(alloc, &cells, 0, &[98, 3, 97, 4])?);
+    cells.take_back(outer);
+    assert!(rt; shows(alloc, &cells, 0, &[97, 1, 98, 2])?);
+    Ok(())
+}
+
 #[test]
 fn tells_what_was_made(rt: HostRuntime) -> Result<(), Fail> {
     let alloc = rt.alloc();

@@ -1,7 +1,8 @@
-//! Copies of values and names, and want of memory as a stop.
+//! Copies of values, names and properties, and want of memory as a stop.
 ghost use Rattle.std.specs.Prelude.{◌≡◌, IfOk};
 
 use crate::{CellName, OpStop, Value};
+use object_props::Props;
 use std::alloc::Global;
 use turk_base::NoMemory;
 
@@ -31,6 +32,24 @@ impl CellName {
             number: self.number,
         })
     }
+}
+
+/// Equal properties.
+pub fn copy_props(alloc: Global, props: &Props<u32, Value>) -> Result<Props<u32, Value>, NoMemory>
+    ensures { IfOk result (λ copy. copy ≡ props.now) }
+{
+    let mut copy = Props::new(alloc);
+    for place in 0..props.len() {
+        let Some((key, value)) = props.pair_at(place) else {
+            unreachable!()
+        };
+        let value = value.copy(alloc)?;
+        match copy.insert_at(place, *key, value) {
+            Ok(()) => {}
+            Err(_) => return Err(NoMemory),
+        }
+    }
+    Ok(copy)
 }
 
 impl From<NoMemory> for OpStop {

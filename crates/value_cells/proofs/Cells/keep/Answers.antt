@@ -1,19 +1,15 @@
-use Rattle.std.proofs.Common.{arith, option_to_list}
-use Rattle.value_cells.proofs.Kept.{closed, first-whole, first-numbered}
+use Rattle.std.proofs.Common.{◌≡◌, ◌∙◌, sym, ap, length, arith, option_to_list, ◌∷◌, [], ◌++◌}
+use Rattle.value_cells.specs.declared.history.Point.{Point}
+use Rattle.value_cells.proofs.Undone.{nested-front}
+use Rattle.value_cells.proofs.Kept.{popped, marks-long, good-kept, seen-kept, then}
 use Rattle.value_cells.proofs.Cells.keep.Goals as goal
+
+last : (c : goal.After-settle) → (q : Point) × (c.self.inside.history.marks.items ≡ c.pop.new.self.items ++ q ∷ [])
+last c =
+    popped c.self.inside.history.marks.items c.pop.new.self.items c.pop.result c.pop.ensures.items
+    (c.pop.ensures.variant.1 (omega (arith, c.requires.open, marks-long c.self.inside c.args.self.now c.self.view_is, c.self.inside.history.marks.ok.0)))
 
 pub invariant_of-self : goal.invariant_of-self
 invariant_of-self c =
-    let a = c.self.inside in let left = c.pop.new.self.items in
-    record {
-      now = c.self.invariant.now;
-      marks = first-whole a.keys a.marks.items left c.self.invariant.marks (option_to_list c.pop.result) c.pop.ensures.items;
-      distinct = c.self.invariant.distinct;
-      numbers = c.self.invariant.numbers;
-      marked = first-numbered a.keys a.marks.items left c.self.invariant.marked (option_to_list c.pop.result) c.pop.ensures.items;
-    }
-
-pub returns-clause-closed : goal.returns-clause-closed
-returns-clause-closed c =
-    let a = c.self.inside in
-    closed a.keys c.args.self.now.marks a.marks.items c.pop.new.self.items c.pop.result (λ i. (c.self.view_is i).marks) c.pop.ensures.items (λ some. c.pop.ensures.variant.1 (omega (arith, some, a.marks.ok.0))) c.requires.open
+    let q = last c in
+    good-kept c.self.inside c.self.invariant c.pop.new.self.items q.0 q.1 c.settle.new.self c.settle.ensures.marks c.settle.ensures.nested c.settle.ensures.same

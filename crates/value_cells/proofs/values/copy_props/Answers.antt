@@ -3,7 +3,7 @@ use Rattle.std.specs.Cmp.{nat_eq_equiv}
 use Rattle.std.specs.Map.{lookup}
 use Rattle.object_props.proofs.Edits.{absent_before_place}
 use Rattle.value_cells.proofs.Lists.{copy-next}
-use Rattle.value_cells.proofs.cell_calls.copy_props.Goals as goal
+use Rattle.value_cells.proofs.values.copy_props.Goals as goal
 
 pub insert_at-requires-clause-fresh : goal.insert_at-requires-clause-fresh
 insert_at-requires-clause-fresh c =

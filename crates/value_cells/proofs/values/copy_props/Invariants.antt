@@ -1,5 +1,5 @@
 use Rattle.std.proofs.Common.{◌≡◌, take}
-use Rattle.value_cells.proofs.cell_calls.copy_props.Given as goal
+use Rattle.value_cells.proofs.values.copy_props.Given as goal
 
 abbrev pub invariant-loop-place : goal.invariant-loop-place
 invariant-loop-place l = l.copy ≡ take l.place l.props
