@@ -11,7 +11,7 @@ use Rattle.value_cells.specs.declared.Value.{Value}
 use Rattle.value_cells.specs.declared.CellData.{CellData}
 use Rattle.value_cells.specs.declared.Cells.TheInside.{Inside}
 use Rattle.value_cells.specs.Needs.{needs, kind_needs, props_needs}
-use Rattle.value_cells.specs.Held.{Cell, Held, Props, Key, key_eq, count, names_of, kinds_of, props_in, props_at, with_props, IsWhole}
+use Rattle.value_cells.specs.Held.{Held, Props, Key, key_eq, count, names_of, kinds_of, props_in, props_at, with_props, IsWhole}
 use Rattle.value_cells.specs.Named.{Entries, key_in, named, AreNumbers, cell_of, stored, IsNumbered}
 use Rattle.value_cells.specs.declared.history.History.{History}
 use Rattle.value_cells.specs.declared.history.Step.{Step}
@@ -19,7 +19,7 @@ use Rattle.value_cells.specs.declared.history.Point.{Point}
 use Rattle.value_cells.specs.Stored.{past, held, AreKept, IsGood}
 use Rattle.value_cells.specs.Undone.{before, befores, put, AreNested}
 use Rattle.value_cells.proofs.Lists.{pushed, whole-pushed, get_last, get_front, lookup-needs, set-needs, push-needs, remove-needs, set-with, whole-with}
-use Rattle.value_cells.proofs.Undone.{changed-at, now-point, opened, nested-open, given-back, taken, ordered, p-at, length-undone, length-take, made-past}
+use Rattle.value_cells.proofs.Undone.{changed-at, now-point, opened, nested-open, given-back, taken, ordered, p-at, length-undone, length-take}
 use Rattle.value_cells.proofs.Named.{text_is, has_text, lookup_named, lookup_none, set_named, remove_named, push_named, numbers_set, numbers_remove, numbers_push, number_at, key_named, distinct_named, all_set, stored_more, all_more}
 
 module _ (a : Inside) (h : Held) (view : held a ≡ h) (good : IsGood a) where
@@ -229,10 +229,6 @@ good-marked a good h steps marks = record {
   within = λ i p e. pushed (λ i p. p.cells ≤ length a.cells.items) a.history.marks.items (now-point a.history.steps.items a.history.marks.items a.cells.items) good.within (omega arith) i p (ap (λ l. slice_get l i) (sym marks) ∙ e);
 }
 
-pub seen-marked : (a : Inside) (h : History) → h.steps.items ≡ a.history.steps.items → h.marks.items ≡ a.history.marks.items ++ now-point a.history.steps.items a.history.marks.items a.cells.items ∷ []
-    → map (stored a.keys) (befores h.steps.items h.marks.items a.cells.items) ≡ map (stored a.keys) (past a) ++ stored a.keys a.cells.items ∷ []
-seen-marked a h steps marks = ap (map (stored a.keys)) (past-marked a h steps marks) ∙ map-append (stored a.keys) (past a) (a.cells.items ∷ [])
-
 pub set-long : (ds : List CellData) (i : ℕ) (d : CellData) → length (set ds i d) ≡ length ds
 set-long [] i d = refl
 set-long (c ∷ ds) zero d = refl
@@ -262,11 +258,6 @@ module _ (a : Inside) (good : IsGood a) (ps : List Point) (q : Point) (is : a.hi
       nested = nested;
       within = λ i p e. good.within i p (p-at a.history.steps.items a.history.marks.items ps q a.cells.items good.nested is i p (ap (λ l. slice_get l i) (sym marks) ∙ e));
     }
-
-    pub seen-kept : ((ds : List CellData) → befores h.steps.items h.marks.items ds ≡ befores a.history.steps.items ps ds)
-        → map (stored a.keys) (past a) ≡ map (stored a.keys) (befores h.steps.items h.marks.items a.cells.items) ++ stored a.keys then ∷ []
-    seen-kept same = ap (map (stored a.keys)) past-is ∙ map-append (stored a.keys) (befores a.history.steps.items ps a.cells.items) (then ∷ [])
-        ∙ (λ i. map (stored a.keys) (sym (same a.cells.items) i) ++ stored a.keys then ∷ [])
 
     module _ (v : Vec CellData Global) (back : v.items ≡ then) (same : (ds : List CellData) → befores h.steps.items h.marks.items ds ≡ befores (take q.steps a.history.steps.items) ps ds) where
       same-past : befores h.steps.items h.marks.items v.items ≡ befores a.history.steps.items ps a.cells.items

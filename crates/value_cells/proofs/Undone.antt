@@ -1,5 +1,5 @@
 -- What undoing steps gives, and that the cells at the open marks stay as they are.
-use Rattle.std.proofs.Common.{◌≡◌, ◌∙◌, subst, ap, refl, sym, ℕ, zero, suc, ◌+◌, ◌-◌, ◌≤◌, ◌<◌, min, Bool, true, false, nat_eq, nat_lt, List, [], ◌∷◌, ◌++◌, length, map, set, Some, None, Result, Ok, Err, OnOk, cond, slice_get, take, drop, arith}
+use Rattle.std.proofs.Common.{◌≡◌, ◌∙◌, subst, ap, refl, sym, ℕ, zero, suc, ◌+◌, ◌-◌, ◌≤◌, Bool, true, false, nat_eq, List, [], ◌∷◌, ◌++◌, length, map, set, Some, None, Result, Ok, Err, OnOk, cond, slice_get, take, drop, arith}
 use Rattle.std.proofs.Math.Seq.{drop-length, take-length}
 use Rattle.std.proofs.lemmas.Bool.Decides.{nat_tests}
 use Rattle.std.proofs.lemmas.List.{map-append, append-nil, append_assoc}
@@ -7,7 +7,6 @@ use Rattle.std.proofs.lemmas.Option.{slice_get_within}
 use Rattle.std.specs.Map.{lookup, set_value, remove_entry}
 use Rattle.value_cells.specs.declared.Value.{Value}
 use Rattle.value_cells.specs.declared.CellData.{CellData}
-use Rattle.value_cells.specs.declared.history.Undo.{Undo}
 use Rattle.value_cells.specs.declared.history.Undo.TheVariants.{SetBack, TakeOut, PutBack}
 use Rattle.value_cells.specs.declared.history.Step.{Step}
 use Rattle.value_cells.specs.declared.history.Point.{Point}
@@ -228,12 +227,6 @@ module _ (ss : List Step) (all ps : List Point) (q : Point) (ds : List CellData)
   pub nested-taken : AreNested (length (take q.steps ss)) ps
   nested-taken = record {
     fewer = λ i p e. subst (λ n. p.steps ≤ n) (sym (length-take q.steps ss q-steps)) (ordered i p e).1;
-    later = λ i j p r l e f. nested.later i j p r l (p-at i p e) (p-at j r f);
-  }
-
-  pub nested-front : AreNested (length ss) ps
-  nested-front = record {
-    fewer = λ i p e. nested.fewer i p (p-at i p e);
     later = λ i j p r l e f. nested.later i j p r l (p-at i p e) (p-at j r f);
   }
 

@@ -1,10 +1,9 @@
-use Rattle.std.proofs.Common.{◌≡◌, ◌∙◌, sym, ap, subst, set, map, nat_eq, None, arith}
-use Rattle.std.specs.Map.{lookup}
+use Rattle.std.proofs.Common.{◌≡◌, ◌∙◌, sym, ap, subst, set, map, arith}
 use Rattle.std.specs.Vec.{with_item}
 use Rattle.value_cells.specs.declared.Cells.TheInside.{Inside}
-use Rattle.value_cells.specs.Held.{Held, IsWhole}
+use Rattle.value_cells.specs.Held.{IsWhole}
 use Rattle.value_cells.specs.Named.{stored, IsNumbered}
-use Rattle.value_cells.specs.Stored.{past, held, IsGood}
+use Rattle.value_cells.specs.Stored.{past, IsGood}
 use Rattle.value_cells.specs.Undone.{befores, put}
 use Rattle.value_cells.proofs.Lists.{insert-last}
 use Rattle.value_cells.proofs.Kept.{on-err, same-seen, good-more, value-told, created, whole-created, numbers-created, whole-same, same-told, numbers-same, data-is, past-put, past-back, good-same, seen-same, good-changed, set-long}

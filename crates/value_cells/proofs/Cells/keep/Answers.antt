@@ -1,7 +1,6 @@
-use Rattle.std.proofs.Common.{◌≡◌, ◌∙◌, sym, ap, length, arith, option_to_list, ◌∷◌, [], ◌++◌}
+use Rattle.std.proofs.Common.{◌≡◌, arith, ◌∷◌, [], ◌++◌}
 use Rattle.value_cells.specs.declared.history.Point.{Point}
-use Rattle.value_cells.proofs.Undone.{nested-front}
-use Rattle.value_cells.proofs.Kept.{popped, marks-long, good-kept, seen-kept, then}
+use Rattle.value_cells.proofs.Kept.{popped, marks-long, good-kept}
 use Rattle.value_cells.proofs.Cells.keep.Goals as goal
 
 last : (c : goal.After-settle) → (q : Point) × (c.self.inside.history.marks.items ≡ c.pop.new.self.items ++ q ∷ [])

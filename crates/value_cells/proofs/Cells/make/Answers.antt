@@ -1,4 +1,4 @@
-use Rattle.std.proofs.Common.{◌≡◌, ◌∙◌, sym, ap, subst, refl, map, length, arith}
+use Rattle.std.proofs.Common.{◌∙◌, sym, ap, subst, refl, map, length, arith}
 use Rattle.value_cells.specs.Held.{IsWhole}
 use Rattle.value_cells.specs.Named.{AreNumbers, stored, IsNumbered}
 use Rattle.value_cells.specs.Stored.{AreKept}

@@ -1,5 +1,5 @@
 use Rattle.std.proofs.Common.{◌≡◌, ◌∙◌, ◌++◌, ◌∷◌, [], length, arith}
-use Rattle.value_cells.proofs.Kept.{good-same, good-marked, seen-marked}
+use Rattle.value_cells.proofs.Kept.{good-same, good-marked}
 use Rattle.value_cells.proofs.Cells.mark.Goals as goal
 
 pub invariant_of-self : goal.invariant_of-self

@@ -1,11 +1,11 @@
-use Rattle.std.proofs.Common.{◌≡◌, ◌∙◌, sym, ap, subst, set, map, nat_eq, length, arith, IsSome, Some, slice_get}
+use Rattle.std.proofs.Common.{◌≡◌, ◌∙◌, sym, ap, subst, set, map, nat_eq, arith, IsSome}
 use Rattle.std.specs.Map.{set_value}
 use Rattle.std.specs.Vec.{with_item}
 use Rattle.value_cells.specs.Held.{own, IsWhole}
 use Rattle.value_cells.specs.Named.{stored, IsNumbered}
 use Rattle.value_cells.specs.Stored.{past}
 use Rattle.value_cells.specs.Undone.{befores, put}
-use Rattle.value_cells.proofs.Kept.{both, no-own, value-told, written, whole-written, numbers-written, data-is, data-same, past-put, good-same, good-changed, seen-same, set-long}
+use Rattle.value_cells.proofs.Kept.{both, no-own, value-told, written, whole-written, numbers-written, data-is, data-same, past-put, good-same, good-changed, set-long}
 use Rattle.value_cells.proofs.Cells.write.Goals as goal
 
 pub unreachable-requires : goal.unreachable-requires

@@ -1,4 +1,4 @@
-use Rattle.std.proofs.Common.{◌≡◌, ◌∙◌, ap, sym, set, length, arith, refl}
+use Rattle.std.proofs.Common.{◌∙◌, ap, sym, set, length, arith, refl}
 use Rattle.std.proofs.lemmas.Option.{slice_get_read}
 use Rattle.value_cells.specs.Undone.{undoing}
 use Rattle.value_cells.proofs.Undone.{changed-at, changed-past}

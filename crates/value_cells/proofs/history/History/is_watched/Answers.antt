@@ -1,6 +1,5 @@
 use Rattle.std.proofs.Common.{◌≡◌, ◌∙◌, ap, sym, ◌-◌, Bool, true, false, not, true≢false, Some, length, slice_get, arith, refl}
 use Rattle.std.proofs.lemmas.Bool.Decides.{nat_tests}
-use Rattle.value_cells.specs.declared.history.Point.{Point}
 use Rattle.value_cells.proofs.Undone.{newest, none-last, free-new, free-saved}
 use Rattle.value_cells.proofs.history.History.is_watched.Goals as goal
 

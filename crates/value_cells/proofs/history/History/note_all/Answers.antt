@@ -1,4 +1,4 @@
-use Rattle.std.proofs.Common.{◌≡◌, ◌∙◌, ap, sym, Some}
+use Rattle.std.proofs.Common.{◌∙◌, ap}
 use Rattle.value_cells.specs.Undone.{befores, put}
 use Rattle.value_cells.proofs.Undone.{noted-all}
 use Rattle.value_cells.proofs.history.History.note_all.Goals as goal

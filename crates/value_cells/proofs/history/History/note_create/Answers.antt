@@ -1,4 +1,4 @@
-use Rattle.std.proofs.Common.{◌≡◌, ◌∙◌, ap, sym, nat_eq, Some, ◌∷◌, [], ◌++◌}
+use Rattle.std.proofs.Common.{◌∙◌, ◌∷◌, [], ◌++◌}
 use Rattle.value_cells.specs.Undone.{befores, put}
 use Rattle.value_cells.proofs.Undone.{on-ok, noted-create, noted-none}
 use Rattle.value_cells.proofs.history.History.note_create.Goals as goal

@@ -1,4 +1,4 @@
-use Rattle.std.proofs.Common.{◌≡◌, ◌∙◌, ap, sym, nat_eq, Some}
+use Rattle.std.proofs.Common.{◌∙◌, ap, sym, nat_eq, Some}
 use Rattle.std.specs.Map.{set_value}
 use Rattle.value_cells.specs.Undone.{befores, put}
 use Rattle.value_cells.proofs.Undone.{on-ok, noted-write}

@@ -1,4 +1,4 @@
-use Rattle.std.proofs.Common.{◌≡◌, ◌∙◌, ap, sym, ◌+◌, ◌<◌, arith, length, refl, ◌∷◌, [], ◌++◌}
+use Rattle.std.proofs.Common.{◌∙◌, ap, arith, length, refl}
 use Rattle.value_cells.proofs.Undone.{length-push, undoing-none, undoing-one, undoing-cells, undoing-steps}
 use Rattle.value_cells.proofs.history.History.undo_since.Goals as goal
 use Rattle.value_cells.proofs.history.History.undo_since.Goals.{in-Some, in_default}
