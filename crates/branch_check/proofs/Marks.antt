@@ -1,9 +1,9 @@
 -- What there was at the marks stays, where the steps are noted.
-use Rattle.std.proofs.Common.{◌≡◌, refl, ap, sym, ◌∙◌, subst, ℕ, ◌≤◌, ◌<◌, Bool, true, false, not, IsTrue, Option, Some, None, option_to_list, List, [], ◌∷◌, ◌++◌, length, map, drop, arith, length-append}
+use Rattle.std.proofs.Common.{◌≡◌, refl, ap, sym, ◌∙◌, subst, ℕ, ◌≤◌, ◌<◌, Bool, true, false, not, IsTrue, Option, Some, None, option_to_list, List, [], ◌∷◌, ◌++◌, length, map, take, drop, arith, length-append}
 use Rattle.std.specs.Prelude.{◌==◌, if◌then◌else◌, Result, Ok, Err, OnOk}
 use Rattle.std.proofs.lemmas.Bool.Decides.{nat_tests}
-use Rattle.std.proofs.Math.Seq.{drop-append_seam}
-use Rattle.std.proofs.lemmas.List.{drop-append-le, map-append}
+use Rattle.std.proofs.Math.Seq.{drop-append_seam, take-append_seam}
+use Rattle.std.proofs.lemmas.List.{append_assoc, drop-append-le, map-append}
 use Rattle.branch_check.specs.declared.Step.{Step}
 use Rattle.branch_check.specs.declared.OpenSlots.{OpenSlots}
 use Rattle.branch_check.specs.declared.Saved.{Saved}
@@ -18,6 +18,33 @@ on_ok (Err e) f p = tt
 undone-append : (xs ys : List Step) (es : Pairs) → undone (xs ++ ys) es ≡ undone xs (undone ys es)
 undone-append [] ys es = refl
 undone-append (x ∷ xs) ys es = ap (undo x) (undone-append xs ys es)
+
+-- ---- steps that lead from one state to another
+
+append_none : (l : List Step) → l ++ [] ≡ l
+append_none [] = refl
+append_none (x ∷ l) = ap (λ z. x ∷ z) (append_none l)
+
+-- no steps
+pub stays : (old new : OpenSlots) → new.steps.items ≡ old.steps.items → new.slots ≡ old.slots → Leads old new
+stays old new e h = record { more = []; steps = e ∙ sym (append_none old.steps.items); back = h }
+
+pub leads_on : (a b c : OpenSlots) → Leads a b → Leads b c → Leads a c
+leads_on a b c h k = record {
+  more = h.more ++ k.more;
+  steps = k.steps ∙ ap (λ l. l ++ k.more) h.steps ∙ append_assoc a.steps.items h.more k.more;
+  back = undone-append h.more k.more c.slots ∙ ap (undone h.more) k.back ∙ h.back;
+}
+
+-- two that have as many steps and lead to the same are the same
+pub same_steps : (a b c : OpenSlots) → Leads a c → Leads b c → length a.steps.items ≡ length b.steps.items → a.steps.items ≡ b.steps.items
+same_steps a b c h k e =
+    sym (take-append_seam a.steps.items h.more) ∙ ap (take (length a.steps.items)) (sym h.steps ∙ k.steps) ∙ ap (λ n. take n (b.steps.items ++ k.more)) e ∙ take-append_seam b.steps.items k.more
+
+pub same_slots : (a b c : OpenSlots) → Leads a c → Leads b c → length a.steps.items ≡ length b.steps.items → a.slots ≡ b.slots
+same_slots a b c h k e =
+    let more : h.more ≡ k.more = sym (drop-append_seam a.steps.items h.more) ∙ ap (drop (length a.steps.items)) (sym h.steps ∙ k.steps) ∙ ap (λ n. drop n (b.steps.items ++ k.more)) e ∙ drop-append_seam b.steps.items k.more in
+    sym h.back ∙ ap (λ l. undone l c.slots) more ∙ k.back
 
 -- ---- the counts of steps
 

@@ -1,19 +1,16 @@
 -- Slots by numbers, and what look-ups among pairs and changes of them come to.
-use Rattle.std.proofs.Common.{◌≡◌, refl, ap, sym, ◌∙◌, subst, ℕ, suc, ◌<◌, ◌+◌, Bool, true, false, ◌&&◌, ◌||◌, not, cond, true≢false, is_some, List, [], ◌∷◌, ◌++◌, length, take, drop, drop-cons, insert, Option, Some, None, slice_get, arith}
+use Rattle.std.proofs.Common.{◌≡◌, refl, ap, sym, ◌∙◌, subst, ℕ, zero, suc, ◌<◌, ◌+◌, Bool, true, false, ◌&&◌, ◌||◌, not, cond, true≢false, is_some, List, [], ◌∷◌, ◌++◌, length, drop, drop-cons, insert, Option, Some, None, slice_get, arith}
 use Rattle.std.specs.Prelude.{◌==◌, if◌then◌else◌}
 use Rattle.std.proofs.Math.Seq.{drop-length, take-length}
 use Rattle.std.proofs.lemmas.Bool.Decides.{nat_tests}
 use Rattle.std.proofs.lemmas.Option.{slice_get_within, get_or_from_slice_get}
-use Rattle.std.proofs.lemmas.List.{take_more}
-use Rattle.std.proofs.lemmas.Grind.{flat_map-append}
-use Rattle.std.proofs.lemmas.Map.{none_passes_from_lookup}
 use Rattle.std.proofs.lemmas.Map.Steps.{set_value_same}
 use Rattle.std.specs.Cmp.{IsEquivalence}
 use Rattle.std.specs.List.{IsDistinct, AllByRecursion, flat_map}
 use Rattle.std.specs.Map.{keys_of, lookup, set_value, remove_entry}
 use Rattle.turk_base.specs.Trace.{begins}
 use Rattle.branch_check.specs.declared.Slot.{Slot}
-use Rattle.branch_check.specs.Numbers.{Pairs, same_slot, met, first_met, opened, kept_by, joined_one}
+use Rattle.branch_check.specs.Numbers.{Pairs, same_slot, met, first_met, opened, kept_by, joined_one, joined_at}
 
 first_of : (x y : Bool) → x && y ≡ true → x ≡ true
 first_of true y e = refl
@@ -145,28 +142,82 @@ put_last es place e h = ap (λ n. insert es n e) h ∙ (λ i. take-length es i +
 
 -- ---- branches join
 
--- a slot that is not open is not opened
-pub none_joined : (x : Slot) (s : List ℕ) (es : Pairs) → lookup (same_slot x) es ≡ None → lookup (same_slot x) (flat_map (joined_one s) es) ≡ None
-none_joined x s [] h = refl
-none_joined x s (e ∷ es) h =
-    let other : same_slot x e.0 ≡ false = (none_passes_from_lookup (same_slot x) (e ∷ es) h).0 in
-    let rest : lookup (same_slot x) (flat_map (joined_one s) es) ≡ None = none_joined x s es (sym (ap (λ b. cond b (Some e.1) (lookup (same_slot x) es)) other) ∙ h) in
-    by (begins s e.1) s other rest
-  where
-    by : (t : Bool) (s′ : List ℕ) → same_slot x e.0 ≡ false → lookup (same_slot x) (flat_map (joined_one s) es) ≡ None
-        → lookup (same_slot x) (cond t (kept_by s′ e.0) (e ∷ []) ++ flat_map (joined_one s) es) ≡ None
-    by true [] other rest = rest
-    by true (i ∷ s′) other rest = rw other rest
-    by false s′ other rest = rw other rest
+-- where branches join in the script's scope, no slot stays open
+pub none_left : (s : List ℕ) (es : Pairs) → length s ≡ 0 → flat_map (joined_one s) es ≡ []
+none_left [] [] h = refl
+none_left [] (e ∷ es) h = none_left [] es h
+none_left (i ∷ s) es h = absurd (omega arith)
 
--- one more pair of those that join
-pub join_next : (s : List ℕ) (es left now : Pairs) (i : ℕ) (e : Slot × List ℕ) → left ≡ flat_map (joined_one s) (take i es) → slice_get es i ≡ Some e → now ≡ left ++ joined_one s e
-    → now ≡ flat_map (joined_one s) (take (i + 1) es)
-join_next s es left now i e old at is =
-    let here : i < length es = slice_get_within es i e at in
-    let more : take (i + 1) es ≡ take i es ++ e ∷ [] = take_more es i e here ∙ ap (λ x. take i es ++ x ∷ []) (get_or_from_slice_get es i e e at) in
-    is ∙ ap (λ l. l ++ joined_one s e) old ∙ sym (ap (flat_map (joined_one s)) more ∙ flat_map-append (joined_one s) (take i es) (e ∷ []) ∙ ap (λ l. flat_map (joined_one s) (take i es) ++ l) (append_none (joined_one s e)))
+-- those at the first places joined
+abbrev pub joined_first : List ℕ → ℕ → Pairs → Pairs
+joined_first s zero es = es
+joined_first s (suc n) [] = []
+joined_first s (suc n) (e ∷ es) = joined_one s e ++ joined_first s n es
+
+pub joined_all : (s : List ℕ) (es : Pairs) → joined_first s (length es) es ≡ flat_map (joined_one s) es
+joined_all s [] = refl
+joined_all s (e ∷ es) = ap (λ l. joined_one s e ++ l) (joined_all s es)
+
+-- in a scope that is not the script's no slot is closed
+one_joined : (i : ℕ) (s : List ℕ) (e : Slot × List ℕ) (l : Pairs) → length (joined_one (i ∷ s) e ++ l) ≡ suc (length l)
+one_joined i s e l = by (begins (i ∷ s) e.1)
   where
-    append_none : (l : Pairs) → l ++ [] ≡ l
-    append_none [] = refl
-    append_none (x ∷ l) = ap (λ z. x ∷ z) (append_none l)
+    by : (t : Bool) → length ((if t then kept_by (i ∷ s) e.0 else e ∷ []) ++ l) ≡ suc (length l)
+    by true = refl
+    by false = refl
+
+pub length-joined_first : (s : List ℕ) (n : ℕ) (es : Pairs) → 0 < length s → length (joined_first s n es) ≡ length es
+length-joined_first [] n es h = absurd (omega arith)
+length-joined_first (i ∷ s) zero es h = refl
+length-joined_first (i ∷ s) (suc n) [] h = refl
+length-joined_first (i ∷ s) (suc n) (e ∷ es) h = one_joined i s e (joined_first (i ∷ s) n es) ∙ ap suc (length-joined_first (i ∷ s) n es h)
+
+-- one more is joined
+pub joined_next : (s : List ℕ) (n : ℕ) (es : Pairs) → 0 < length s → joined_at s n (joined_first s n es) ≡ joined_first s (suc n) es
+joined_next [] n es h = absurd (omega arith)
+joined_next (i ∷ s) zero [] h = refl
+joined_next (i ∷ s) zero (e ∷ es) h = refl
+joined_next (i ∷ s) (suc n) [] h = refl
+joined_next (i ∷ s) (suc n) (e ∷ es) h = by (begins (i ∷ s) e.1) (joined_next (i ∷ s) n es h)
+  where
+    by : (t : Bool) → joined_at (i ∷ s) n (joined_first (i ∷ s) n es) ≡ joined_first (i ∷ s) (suc n) es
+        → joined_at (i ∷ s) (suc n) ((if t then kept_by (i ∷ s) e.0 else e ∷ []) ++ joined_first (i ∷ s) n es) ≡ (if t then kept_by (i ∷ s) e.0 else e ∷ []) ++ joined_first (i ∷ s) (suc n) es
+    by true rest = ap (λ l. (e.0, i ∷ s) ∷ l) rest
+    by false rest = ap (λ l. e ∷ l) rest
+
+-- a path that doesn't begin with the scope stays
+pub joined_beside : (s : List ℕ) (n : ℕ) (es : Pairs) (e : Slot × List ℕ) → slice_get es n ≡ Some e → begins s e.1 ≡ false → joined_at s n es ≡ es
+joined_beside s n [] e h t = refl
+joined_beside s zero (f ∷ es) e h t = let k : f ≡ e = cc in let u : begins s f.1 ≡ false = ap (λ g. begins s g.1) k ∙ t in rw u refl
+joined_beside s (suc n) (f ∷ es) e h t = ap (λ l. f ∷ l) (joined_beside s n es e h t)
+
+-- the scope's own path too
+pub joined_same : (s : List ℕ) (n : ℕ) (es : Pairs) (e : Slot × List ℕ) → 0 < length s → slice_get es n ≡ Some e → s ≡ e.1 → joined_at s n es ≡ es
+joined_same [] n es e l h t = absurd (omega arith)
+joined_same (i ∷ s) n [] e l h t = refl
+joined_same (i ∷ s) zero (f ∷ es) e l h t = by (begins (i ∷ s) f.1)
+  where
+    by : (b : Bool) → (if b then kept_by (i ∷ s) f.0 else f ∷ []) ++ es ≡ f ∷ es
+    by true = let k : f ≡ e = cc in let u : i ∷ s ≡ f.1 = t ∙ ap (λ g. g.1) (sym k) in ap (λ p. (f.0, p) ∷ es) u
+    by false = refl
+joined_same (i ∷ s) (suc n) (f ∷ es) e l h t = ap (λ l. f ∷ l) (joined_same (i ∷ s) n es e l h t)
+
+-- a key that stands later is another one
+later_key : (x : Slot) (n : ℕ) (es : Pairs) (e : Slot × List ℕ) → slice_get es n ≡ Some e → AllByRecursion (λ k. same_slot x k ≡ false) (keys_of es) → same_slot x e.0 ≡ false
+later_key x n [] e h d = cc
+later_key x zero (f ∷ es) e h d = let k : f ≡ e = cc in ap (λ g. same_slot x g.0) (sym k) ∙ d.0
+later_key x (suc n) (f ∷ es) e h d = later_key x n es e h d.1
+
+-- a longer path gives way to the scope's
+pub joined_opened : (s : List ℕ) (n : ℕ) (es : Pairs) (e : Slot × List ℕ) → 0 < length s → slice_get es n ≡ Some e → begins s e.1 ≡ true → IsDistinct same_slot (keys_of es) → opened e.0 s es ≡ joined_at s n es
+unfolding IsDistinct
+joined_opened s n [] e l h t d = cc
+joined_opened [] zero (f ∷ es) e l h t d = absurd (omega arith)
+joined_opened (i ∷ s) zero (f ∷ es) e l h t d =
+    let k : f ≡ e = cc in
+    let here : same_slot e.0 f.0 ≡ true = ap (λ g. same_slot e.0 g.0) k ∙ same_self e.0 in
+    let u : begins (i ∷ s) f.1 ≡ true = ap (λ g. begins (i ∷ s) g.1) k ∙ t in
+    rw (here, u) refl
+joined_opened s (suc n) (f ∷ es) e l h t d =
+    let other : same_slot e.0 f.0 ≡ false = same_turned e.0 f.0 ∙ later_key f.0 n es e h d.0 in
+    rw other (ap (λ l. f ∷ l) (joined_opened s n es e l h t d.1))

@@ -1,5 +1,5 @@
 -- The rules on open slots as they are kept: numbers of cells and keys, and paths as lists (own rules).
-use Rattle.std.specs.Prelude.{ℕ, Bool, false, ◌&&◌, ◌||◌, ◌==◌, not, List, [], ◌∷◌, Option, Some, None, if◌then◌else◌}
+use Rattle.std.specs.Prelude.{ℕ, zero, suc, Bool, false, ◌&&◌, ◌||◌, ◌==◌, not, List, [], ◌∷◌, ◌++◌, Option, Some, None, if◌then◌else◌}
 use Rattle.turk_base.specs.Trace.{begins}
 use Rattle.branch_check.specs.declared.Slot.{Slot}
 use Rattle.branch_check.specs.declared.OpenSlot.{OpenSlot}
@@ -42,3 +42,9 @@ kept_by (i ∷ s) x = (x, i ∷ s) ∷ []
 -- what one open slot becomes where branches join in s
 abbrev pub joined_one : List ℕ → Slot × List ℕ → Pairs
 joined_one s e = if begins s e.1 then kept_by s e.0 else e ∷ []
+
+-- only the one at that place
+abbrev pub joined_at : List ℕ → ℕ → Pairs → Pairs
+joined_at s i [] = []
+joined_at s zero (e ∷ es) = joined_one s e ++ es
+joined_at s (suc i) (e ∷ es) = e ∷ joined_at s i es

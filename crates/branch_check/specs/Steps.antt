@@ -2,7 +2,7 @@
 use Rattle.std.specs.Prelude.{◌≡◌, ◌≤◌, ℕ, List, [], ◌∷◌, ◌++◌}
 use Rattle.std.specs.Map.{set_value, remove_entry}
 use Rattle.branch_check.specs.declared.Step.{Step}
-use Rattle.branch_check.specs.declared.Step.TheVariants.{Added, Replaced, Joined}
+use Rattle.branch_check.specs.declared.Step.TheVariants.{Added, Replaced, Closed}
 use Rattle.branch_check.specs.declared.OpenSlots.{OpenSlots}
 use Rattle.branch_check.specs.declared.Saved.{Saved}
 use Rattle.branch_check.specs.Numbers.{Pairs, same_slot}
@@ -11,7 +11,7 @@ use Rattle.branch_check.specs.Numbers.{Pairs, same_slot}
 abbrev pub undo : Step → Pairs → Pairs
 undo (Added x) es = remove_entry (same_slot x) es
 undo (Replaced o) es = set_value (same_slot o.slot) es o.by
-undo (Joined before) es = before
+undo (Closed before) es = before
 
 -- the open slots before the steps, of which the last is undone first
 abbrev pub undone : List Step → Pairs → Pairs

@@ -45,8 +45,8 @@ enum Step {
     Added(Slot),
     /// This slot was open by this path before another took its place.
     Replaced(OpenSlot),
-    /// Branches joined; before that these slots were open.
-    Joined(Props<Slot, Path>),
+    /// These slots were open before all were closed.
+    Closed(Props<Slot, Path>),
 }
 
 /// The open slots in order of first writing, each with the path that wrote it, and the steps that

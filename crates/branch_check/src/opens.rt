@@ -4,10 +4,10 @@ ghost use Rattle.std.specs.Vec.{vec_len, vec_capacity};
 ghost use Rattle.std.specs.List.{flat_map};
 ghost use Rattle.std.specs.Map.{lookup};
 ghost use Rattle.turk_base.specs.Trace.{begins};
-ghost use Rattle.branch_check.specs.Numbers.{same_slot, met, first_met, joined_one, opened as opened_by};
+ghost use Rattle.branch_check.specs.Numbers.{same_slot, met, first_met, joined_one, joined_at, opened as opened_by};
 ghost use Rattle.branch_check.specs.Steps.{Leads};
 
-use crate::steps::{make_room, note_step};
+use crate::steps::{make_room, note_step, undo_from};
 use crate::{Found, OpenSlot, OpenSlots, Slot, Step};
 use object_props::Props;
 use std::alloc::Global;
@@ -112,47 +112,71 @@ pub fn join(alloc: Global, noted: bool, opens: &mut OpenSlots, scope: &Path) -> 
     ensures err { OnErr result (opens.new.slots ≡ opens.old.slots) }
     ensures back { IsTrue noted → Leads opens.old opens.new }
 {
-    let left = joined(alloc, scope, &opens.slots)?;
-    make_room(noted, &mut opens.steps)?;
-    let before = mem::replace(&mut opens.slots, left);
-    note_step(noted, &mut opens.steps, Step::Joined(before));
+    if scope.len() == 0 {
+        return close_all(alloc, noted, opens);
+    }
+    let place = opens.steps.len();
+    if let Err(refused) = shorten(alloc, opens, scope) {
+        undo_from(place, opens);
+        return Err(refused);
+    }
+    if !noted {
+        opens.steps.truncate(place);
+    }
     Ok(())
 }
 
-fn joined(
-    alloc: Global,
-    scope: &Path,
-    slots: &Props<Slot, Path>,
-) -> Result<Props<Slot, Path>, NoMemory>
-    ensures { IfOk result (λ left. left ≡ flat_map (joined_one scope.now) slots.now) }
+// closes each slot
+fn close_all(alloc: Global, noted: bool, opens: &mut OpenSlots) -> Result<(), NoMemory>
+    ensures ok { OnOk result (opens.new.slots ≡ []) }
+    ensures err { OnErr result (opens.new.slots ≡ opens.old.slots) }
+    ensures back { IsTrue noted → Leads opens.old opens.new }
 {
-    let mut left = Props::new(alloc);
-    for place in 0..slots.len() {
-        let Some((slot, by)) = slots.pair_at(place) else {
-            unreachable!()
-        };
-        join_one(alloc, scope, *slot, by, &mut left)?;
-    }
-    Ok(left)
-}
-
-fn join_one(
-    alloc: Global,
-    scope: &Path,
-    slot: Slot,
-    by: &Path,
-    left: &mut Props<Slot, Path>,
-) -> Result<(), NoMemory>
-    requires { lookup (same_slot slot) left.old ≡ None }
-    ensures { IfOk result (λ _. left.new ≡ left.old ++ joined_one scope.now (slot, by.now)) }
-{
-    if !scope.begins(by) {
-        return add_last(left, slot, by.copy(alloc)?);
-    }
-    if scope.len() == 0 {
+    if opens.slots.len() == 0 {
         return Ok(());
     }
-    add_last(left, slot, scope.copy(alloc)?)
+    make_room(noted, &mut opens.steps)?;
+    let before = mem::replace(&mut opens.slots, Props::new(alloc));
+    note_step(noted, &mut opens.steps, Step::Closed(before));
+    Ok(())
+}
+
+// each path that begins with the scope becomes the scope's, by steps that are noted
+fn shorten(alloc: Global, opens: &mut OpenSlots, scope: &Path) -> Result<(), NoMemory>
+    requires { 0 < length scope.now }
+    ensures ok { OnOk result (opens.new.slots ≡ flat_map (joined_one scope.now) opens.old.slots) }
+    ensures back { Leads opens.old opens.new }
+{
+    for place in 0..opens.slots.len() {
+        shorten_at(alloc, place, opens, scope)?;
+    }
+    Ok(())
+}
+
+fn shorten_at(
+    alloc: Global,
+    place: usize,
+    opens: &mut OpenSlots,
+    scope: &Path,
+) -> Result<(), NoMemory>
+    requires within { place < length opens.old.slots }
+    requires scope { 0 < length scope.now }
+    ensures ok { OnOk result (opens.new.slots ≡ joined_at scope.now place opens.old.slots) }
+    ensures back { Leads opens.old opens.new }
+{
+    let Some((slot, by)) = opens.slots.pair_at(place) else {
+        unreachable!()
+    };
+    if !scope.begins(by) {
+        return Ok(());
+    }
+    if scope == by {
+        return Ok(());
+    }
+    let slot = *slot;
+    let path = scope.copy(alloc)?;
+    make_room(true, &mut opens.steps)?;
+    open(true, opens, slot, path)
 }
 
 fn add_last(slots: &mut Props<Slot, Path>, slot: Slot, by: Path) -> Result<(), NoMemory>

@@ -54,6 +54,6 @@ fn undo(step: Step, slots: &mut Props<Slot, Path>)
         Step::Replaced(OpenSlot { slot, by }) => {
             let _ = slots.set(&slot, by);
         }
-        Step::Joined(before) => *slots = before,
+        Step::Closed(before) => *slots = before,
     }
 }

@@ -111,37 +111,46 @@ fn undoes_each_step(rt: HostRuntime) -> Result<(), Fail> {
     let right = Path::from_slice(alloc, &[1])?;
     let mut monitor = Monitor::new(alloc);
     monitor.wrote(A, &left, &root)?;
-    assert!(rt; monitor.opens.steps.is_empty());
     let outer = monitor.mark()?;
     monitor.wrote(B, &deep, &root)?;
     monitor.wrote(A, &deep, &root)?;
     assert!(rt; has(&monitor, &[(A, &[0, 2]), (B, &[0, 2])]));
-    let middle = monitor.mark()?;
+    let inner = monitor.mark()?;
     monitor.joined(&left)?;
     monitor.wrote(C, &right, &root)?;
     assert!(rt; has(&monitor, &[(A, &[0]), (B, &[0]), (C, &[1])]));
+    monitor.take_back(inner);
+    assert!(rt; has(&monitor, &[(A, &[0, 2]), (B, &[0, 2])]));
     let inner = monitor.mark()?;
     monitor.joined(&root)?;
     monitor.wrote(B, &right, &root)?;
     monitor.keep(inner);
     assert!(rt; has(&monitor, &[(B, &[1])]));
-    monitor.take_back(middle);
-    assert!(rt; has(&monitor, &[(A, &[0, 2]), (B, &[0, 2])]));
-    monitor.wrote(C, &deep, &root)?;
-    let inner = monitor.mark()?;
-    monitor.wrote(A, &deep, &root)?;
-    monitor.joined(&left)?;
-    assert!(rt; has(&monitor, &[(A, &[0]), (B, &[0]), (C, &[0])]));
-    monitor.take_back(inner);
-    assert!(rt; has(&monitor, &[(A, &[0, 2]), (B, &[0, 2]), (C, &[0, 2])]));
     monitor.take_back(outer);
     assert!(rt; has(&monitor, &[(A, &[0])]));
-    let last = monitor.mark()?;
-    monitor.wrote(B, &left, &root)?;
-    monitor.keep(last);
+    Ok(())
+}
+
+#[test]
+fn notes_changes_alone(rt: HostRuntime) -> Result<(), Fail> {
+    let alloc = rt.alloc();
+    let root = Path::new(alloc);
+    let left = Path::from_slice(alloc, &[0])?;
+    let deep = Path::from_slice(alloc, &[0, 2])?;
+    let mut monitor = Monitor::new(alloc);
+    monitor.wrote(A, &deep, &root)?;
+    monitor.joined(&left)?;
+    assert_eq!(rt; monitor.opens.steps.len(), 0);
+    let mark = monitor.mark()?;
+    monitor.wrote(B, &deep, &root)?;
+    monitor.joined(&left)?;
+    assert_eq!(rt; monitor.opens.steps.len(), 2);
+    monitor.joined(&left)?;
+    monitor.wrote(A, &left, &root)?;
+    assert_eq!(rt; monitor.opens.steps.len(), 2);
+    monitor.keep(mark);
+    assert_eq!(rt; monitor.opens.steps.len(), 0);
     assert!(rt; has(&monitor, &[(A, &[0]), (B, &[0])]));
-    assert!(rt; monitor.opens.steps.is_empty());
-    assert!(rt; is_independent(&monitor));
     Ok(())
 }
 
