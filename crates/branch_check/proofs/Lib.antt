@@ -1,3 +1,4 @@
-mod Opened
+pub mod Marks
+pub mod Pairs
 mod Prefixes
-mod Rules
+pub mod Rules

@@ -8,11 +8,11 @@ use Rattle.turk_base.specs.Names.{Path, root, sub, path_in, path_on, cell, Part,
 use Rattle.turk_base.specs.State.{Opening, opening, touched, first_open, open_at, open_by, cut, independent, first_reason, touch_reason, once_reason}
 use Rattle.turk_base.specs.Trace.{begins}
 use Rattle.branch_check.specs.declared.Slot.{Slot as CodeSlot}
-use Rattle.branch_check.specs.declared.OpenSlot.{OpenSlot}
 use Rattle.branch_check.specs.declared.Found.{Found}
 use Rattle.branch_check.specs.declared.Found.TheVariants as found
-use Rattle.branch_check.specs.Numbers.{same_slot, met, first_met, opened, open_slot, kept_by, joined_one}
-use Rattle.branch_check.specs.Watch.{part_numbered, numbered, opening_of, openings_of, Kept, watch_of, verdict_of, after_touch, after_once, after_write, after_join}
+use Rattle.branch_check.specs.Numbers.{Pairs, same_slot, met, first_met, opened, shown, kept_by, joined_one}
+use Rattle.branch_check.specs.Watch.{part_numbered, numbered, openings_of, Kept, watch_of, verdict_of, after_touch, after_once, after_write, after_join}
+use Rattle.branch_check.proofs.Pairs.{same_is}
 use Rattle.branch_check.proofs.Prefixes.{pick_under}
 
 abbrev number_of : Part → ℕ
@@ -38,29 +38,16 @@ apart a x e =
     let two : (a.key == x.key) ≡ true = grind (arith, nat_tests) in
     rw (one, two) refl
 
-first_of : (x y : Bool) → x && y ≡ true → x ≡ true
-first_of true y e = refl
-first_of false y e = absurd (true≢false (sym e))
-
-second_of : (x y : Bool) → x && y ≡ true → y ≡ true
-second_of true y e = e
-second_of false y e = absurd (true≢false (sym e))
-
 together : (a x : CodeSlot) → same_slot a x ≡ true → numbered a ≡ numbered x
-together a x e =
-    let h : (a.cell == x.cell) ≡ true = first_of (a.cell == x.cell) (a.key == x.key) e in
-    let k : (a.key == x.key) ≡ true = second_of (a.cell == x.cell) (a.key == x.key) e in
-    let cells : a.cell ≡ x.cell = grind (arith, nat_tests) in
-    let keys : a.key ≡ x.key = grind (arith, nat_tests) in
-    rw (cells, keys) refl
+together a x e = ap numbered (same_is a x e)
 
-pick_slot : {B : Type 0} (a x : CodeSlot) (u v : B) → pick (slot_eq (numbered a) (numbered x)) u v ≡ (if same_slot a x then u else v)
-pick_slot {B} a x u v = inner (slot_eq (numbered a) (numbered x)) (same_slot a x) refl
+pick_slot : {B : Type 0} (a x : CodeSlot) (u v : B) → pick (slot_eq (numbered a) (numbered x)) u v ≡ (if same_slot x a then u else v)
+pick_slot {B} a x u v = inner (slot_eq (numbered a) (numbered x)) (same_slot x a) refl
   where
-    inner : (d : Dec (numbered a ≡ numbered x)) (t : Bool) → same_slot a x ≡ t → pick d u v ≡ (if t then u else v)
+    inner : (d : Dec (numbered a ≡ numbered x)) (t : Bool) → same_slot x a ≡ t → pick d u v ≡ (if t then u else v)
     inner (yes e) true h = refl
-    inner (yes e) false h = absurd (true≢false (sym (apart a x e) ∙ h))
-    inner (no n) true h = absurd (n (together a x h))
+    inner (yes e) false h = absurd (true≢false (sym (apart x a (sym e)) ∙ h))
+    inner (no n) true h = absurd (n (sym (together x a h)))
     inner (no n) false h = refl
 
 meets : (s b m : Bool) → (if s then (if b then m else true) else m) ≡ ((s && not b) || m)
@@ -68,68 +55,83 @@ meets true true m = refl
 meets true false m = refl
 meets false b m = refl
 
-pub met_is : (b : List ℕ) (x : CodeSlot) (l : List OpenSlot) → touched (path_in b) (numbered x) (openings_of l) ≡ met b x l
+-- the pairs by names
+abbrev named : Pairs → List Opening
+named es = openings_of (shown es)
+
+pub met_is : (b : List ℕ) (x : CodeSlot) (es : Pairs) → touched (path_in b) (numbered x) (named es) ≡ met b x es
 met_is b x [] = refl
-met_is b x (o ∷ l) =
-    pick_slot o.slot x (pick (under (path_in o.by) (path_in b)) (touched (path_in b) (numbered x) (openings_of l)) true) (touched (path_in b) (numbered x) (openings_of l))
-    ∙ rw (pick_under o.by b (touched (path_in b) (numbered x) (openings_of l)) true, met_is b x l) (meets (same_slot o.slot x) (begins o.by b) (met b x l))
+met_is b x (e ∷ es) =
+    pick_slot e.0 x (pick (under (path_in e.1) (path_in b)) (touched (path_in b) (numbered x) (named es)) true) (touched (path_in b) (numbered x) (named es))
+    ∙ rw (pick_under e.1 b (touched (path_in b) (numbered x) (named es)) true, met_is b x es) (meets (same_slot x e.0) (begins e.1 b) (met b x es))
 
 choose : {A B : Type 0} (f : A → B) (t : Bool) (x y : A) → f (if t then x else y) ≡ (if t then f x else f y)
 choose f true x y = refl
 choose f false x y = refl
 
-pub first_is : (b : List ℕ) (l : List OpenSlot) → first_open (path_in b) (openings_of l) ≡ option_map numbered (first_met b l)
+pub first_is : (b : List ℕ) (es : Pairs) → first_open (path_in b) (named es) ≡ option_map numbered (first_met b es)
 first_is b [] = refl
-first_is b (o ∷ l) =
-    pick_under o.by b (first_open (path_in b) (openings_of l)) (Some (numbered o.slot))
-    ∙ rw (first_is b l) (sym (choose (λ m. option_map numbered m) (begins o.by b) (first_met b l) (Some o.slot)))
+first_is b (e ∷ es) =
+    pick_under e.1 b (first_open (path_in b) (named es)) (Some (numbered e.0))
+    ∙ rw (first_is b es) (sym (choose (λ m. option_map numbered m) (begins e.1 b) (first_met b es) (Some e.0)))
 
-pub opened_is : (x : CodeSlot) (b : List ℕ) (l : List OpenSlot) → open_at (numbered x) (path_in b) (openings_of l) ≡ openings_of (opened x b l)
+-- the slot's name is that of the slot that stands there
+renamed_is : (x y : CodeSlot) (b : List ℕ) (R S : List Opening) (t : Bool) → same_slot x y ≡ t
+    → (if t then opening (numbered x) (path_in b) ∷ R else S) ≡ (if t then opening (numbered y) (path_in b) ∷ R else S)
+renamed_is x y b R S true e = ap (λ z. opening z (path_in b) ∷ R) (together x y e)
+renamed_is x y b R S false e = refl
+
+pub opened_is : (x : CodeSlot) (b : List ℕ) (es : Pairs) → open_at (numbered x) (path_in b) (named es) ≡ named (opened x b es)
 opened_is x b [] = refl
-opened_is x b (o ∷ l) =
-    pick_slot o.slot x (opening (numbered x) (path_in b) ∷ openings_of l) (opening_of o ∷ open_at (numbered x) (path_in b) (openings_of l))
-    ∙ rw (opened_is x b l) (sym (choose openings_of (same_slot o.slot x) (open_slot x b ∷ l) (o ∷ opened x b l)))
+opened_is x b (e ∷ es) =
+    pick_slot e.0 x (opening (numbered x) (path_in b) ∷ named es) (opening (numbered e.0) (path_in e.1) ∷ open_at (numbered x) (path_in b) (named es))
+    ∙ renamed_is x e.0 b (named es) (opening (numbered e.0) (path_in e.1) ∷ open_at (numbered x) (path_in b) (named es)) (same_slot x e.0) refl
+    ∙ rw (opened_is x b es) (sym (choose named (same_slot x e.0) ((e.0, b) ∷ es) (e ∷ opened x b es)))
 
 open_by_on : (y : Slot) (i : ℕ) (q : Path) (c : List ℕ) (R : List Opening) → open_by y (path_on (sub i q) c) R ≡ opening y (path_on (sub i q) c) ∷ R
 open_by_on y i q [] R = refl
 open_by_on y i q (j ∷ c) R = open_by_on y j (sub i q) c R
 
-kept_is : (s : List ℕ) (x : CodeSlot) (R : List Opening) (F : List OpenSlot) → R ≡ openings_of F → open_by (numbered x) (path_in s) R ≡ openings_of (kept_by s x ++ F)
+kept_is : (s : List ℕ) (x : CodeSlot) (R : List Opening) (F : Pairs) → R ≡ named F → open_by (numbered x) (path_in s) R ≡ named (kept_by s x ++ F)
 kept_is [] x R F e = e
 kept_is (i ∷ s) x R F e = open_by_on (numbered x) i root s R ∙ ap (λ z. opening (numbered x) (path_in (i ∷ s)) ∷ z) e
 
-joined_is : (t : Bool) (s : List ℕ) (o : OpenSlot) (R : List Opening) (F : List OpenSlot) → R ≡ openings_of F
-    → (if t then open_by (numbered o.slot) (path_in s) R else opening_of o ∷ R) ≡ openings_of ((if t then kept_by s o.slot else o ∷ []) ++ F)
-joined_is true s o R F e = kept_is s o.slot R F e
-joined_is false s o R F e = ap (λ z. opening_of o ∷ z) e
+joined_is : (t : Bool) (s : List ℕ) (e : CodeSlot × List ℕ) (R : List Opening) (F : Pairs) → R ≡ named F
+    → (if t then open_by (numbered e.0) (path_in s) R else opening (numbered e.0) (path_in e.1) ∷ R) ≡ named ((if t then kept_by s e.0 else e ∷ []) ++ F)
+joined_is true s e R F h = kept_is s e.0 R F h
+joined_is false s e R F h = ap (λ z. opening (numbered e.0) (path_in e.1) ∷ z) h
 
-pub join_is : (s : List ℕ) (l : List OpenSlot) → cut (path_in s) (openings_of l) ≡ openings_of (flat_map (joined_one s) l)
+pub join_is : (s : List ℕ) (es : Pairs) → cut (path_in s) (named es) ≡ named (flat_map (joined_one s) es)
 join_is s [] = refl
-join_is s (o ∷ l) =
-    pick_under s o.by (open_by (numbered o.slot) (path_in s) (cut (path_in s) (openings_of l))) (opening_of o ∷ cut (path_in s) (openings_of l))
-    ∙ joined_is (begins s o.by) s o (cut (path_in s) (openings_of l)) (flat_map (joined_one s) l) (join_is s l)
+join_is s (e ∷ es) =
+    pick_under s e.1 (open_by (numbered e.0) (path_in s) (cut (path_in s) (named es))) (opening (numbered e.0) (path_in e.1) ∷ cut (path_in s) (named es))
+    ∙ joined_is (begins s e.1) s e (cut (path_in s) (named es)) (flat_map (joined_one s) es) (join_is s es)
 
--- ---- the calls: k is what is kept before, w the same as the contract sees it
+-- ---- the calls: es and f are what is kept before, w the same as the contract sees it
 
-pub after_touch_is : (b : List ℕ) (x : CodeSlot) (k w : Kept) (v : Found) → k ≡ w → verdict_of v ≡ first_reason (verdict_of k.found) (touch_reason (numbered x) (met b x k.opened))
-    → watch_of (record { opened = k.opened; found = v }) ≡ after_touch (path_in b) (numbered x) (watch_of w)
-after_touch_is b x k w v s e = subst (λ z. watch_of (record { opened = k.opened; found = v }) ≡ after_touch (path_in b) (numbered x) (watch_of z)) s (rw (met_is b x k.opened, e) refl)
+-- what is kept, as the contract sees it
+abbrev pub kept : Pairs → Found → Kept
+kept es f = record { opened = shown es; found = f }
 
-pub after_once_is : (b : List ℕ) (k w : Kept) (v : Found) → k ≡ w → verdict_of v ≡ first_reason (verdict_of k.found) (once_reason (option_map numbered (first_met b k.opened)))
-    → watch_of (record { opened = k.opened; found = v }) ≡ after_once (path_in b) (watch_of w)
-after_once_is b k w v s e = subst (λ z. watch_of (record { opened = k.opened; found = v }) ≡ after_once (path_in b) (watch_of z)) s (rw (first_is b k.opened, e) refl)
+module _ (es : Pairs) (f : Found) (w : Kept) (same : kept es f ≡ w) where
+  pub after_touch_is : (b : List ℕ) (x : CodeSlot) (v : Found) → verdict_of v ≡ first_reason (verdict_of f) (touch_reason (numbered x) (met b x es))
+      → watch_of (kept es v) ≡ after_touch (path_in b) (numbered x) (watch_of w)
+  after_touch_is b x v e = subst (λ z. watch_of (kept es v) ≡ after_touch (path_in b) (numbered x) (watch_of z)) same (rw (met_is b x es, e) refl)
 
-pub after_write_is : (b m : List ℕ) (x : CodeSlot) (k w : Kept) (l : List OpenSlot) (v : Found) → k ≡ w → l ≡ (if begins b m then k.opened else opened x b k.opened)
-    → verdict_of v ≡ first_reason (verdict_of k.found) (touch_reason (numbered x) (met b x k.opened))
-    → watch_of (record { opened = l; found = v }) ≡ after_write (path_in b) (path_in m) (numbered x) (watch_of w)
-after_write_is b m x k w l v s o e =
-    let opens : openings_of l ≡ pick (under (path_in b) (path_in m)) (openings_of k.opened) (open_at (numbered x) (path_in b) (openings_of k.opened)) =
-    ap openings_of o ∙ choose openings_of (begins b m) k.opened (opened x b k.opened) ∙ sym (rw (opened_is x b k.opened) (pick_under b m (openings_of k.opened) (openings_of (opened x b k.opened)))) in
-    subst (λ z. watch_of (record { opened = l; found = v }) ≡ after_write (path_in b) (path_in m) (numbered x) (watch_of z)) s (rw (met_is b x k.opened, e, opens) refl)
+  pub after_once_is : (b : List ℕ) (v : Found) → verdict_of v ≡ first_reason (verdict_of f) (once_reason (option_map numbered (first_met b es)))
+      → watch_of (kept es v) ≡ after_once (path_in b) (watch_of w)
+  after_once_is b v e = subst (λ z. watch_of (kept es v) ≡ after_once (path_in b) (watch_of z)) same (rw (first_is b es, e) refl)
 
-pub after_join_is : (j : List ℕ) (k w : Kept) (l : List OpenSlot) → k ≡ w → l ≡ flat_map (joined_one j) k.opened
-    → watch_of (record { opened = l; found = k.found }) ≡ after_join (path_in j) (watch_of w)
-after_join_is j k w l s e = subst (λ z. watch_of (record { opened = l; found = k.found }) ≡ after_join (path_in j) (watch_of z)) s (rw (join_is j k.opened, e) refl)
+  pub after_write_is : (b m : List ℕ) (x : CodeSlot) (fs : Pairs) (v : Found) → fs ≡ (if begins b m then es else opened x b es)
+      → verdict_of v ≡ first_reason (verdict_of f) (touch_reason (numbered x) (met b x es))
+      → watch_of (kept fs v) ≡ after_write (path_in b) (path_in m) (numbered x) (watch_of w)
+  after_write_is b m x fs v o e =
+      let opens : named fs ≡ pick (under (path_in b) (path_in m)) (named es) (open_at (numbered x) (path_in b) (named es)) =
+      ap named o ∙ choose named (begins b m) es (opened x b es) ∙ sym (rw (opened_is x b es) (pick_under b m (named es) (named (opened x b es)))) in
+      subst (λ z. watch_of (kept fs v) ≡ after_write (path_in b) (path_in m) (numbered x) (watch_of z)) same (rw (met_is b x es, e, opens) refl)
+
+  pub after_join_is : (s : List ℕ) (fs : Pairs) → fs ≡ flat_map (joined_one s) es → watch_of (kept fs f) ≡ after_join (path_in s) (watch_of w)
+  after_join_is s fs e = subst (λ z. watch_of (kept fs f) ≡ after_join (path_in s) (watch_of z)) same (rw (join_is s es, e) refl)
 
 pub no_reason : (v : Found) → verdict_of v ≡ first_reason (verdict_of v) independent
 no_reason found.Independent = refl

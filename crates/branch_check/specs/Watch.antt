@@ -1,13 +1,16 @@
 -- What a contract sees of a monitor, and what each call does to it (own rules). Cells and keys stand as the numbers that the code gives them.
-use Rattle.std.specs.Prelude.{ℕ, zero, suc, List, [], ◌∷◌, map}
+use Rattle.std.specs.Prelude.{ℕ, zero, suc, List, [], ◌∷◌, length, map, drop}
 use Rattle.turk_base.specs.Names.{Path, root, path_in, cell, Part, shape, at, Slot, slot, pick, under}
 use Rattle.turk_base.specs.State.{Opening, opening, Verdict, independent, touched_open, once_while_open, branch_threw, touched, first_open, open_at, cut, first_reason, touch_reason, once_reason}
 use Rattle.branch_check.specs.declared.Slot.{Slot as CodeSlot}
 use Rattle.branch_check.specs.declared.Found.{Found}
 use Rattle.branch_check.specs.declared.Found.TheVariants as found
 use Rattle.branch_check.specs.declared.OpenSlot.{OpenSlot}
-use Rattle.branch_check.specs.declared.Noted.{Noted}
+use Rattle.branch_check.specs.declared.OpenSlots.{OpenSlots}
+use Rattle.branch_check.specs.declared.Saved.{Saved}
 use Rattle.branch_check.specs.declared.Monitor.TheInside.{Inside}
+use Rattle.branch_check.specs.Numbers.{shown}
+use Rattle.branch_check.specs.Steps.{undone, Rising}
 
 -- key 0 is the shape; each other number stands for a key of its own
 abbrev pub part_numbered : ℕ → Part
@@ -39,11 +42,16 @@ pub record Seen : Type 0 where
   pub current : Kept
   pub marks : List Kept
 
-abbrev pub kept_of : Noted → Kept
-kept_of w = record { opened = w.opened.items; found = w.found }
+-- what there was at a mark: the steps since are undone
+abbrev pub kept_at : OpenSlots → Saved → Kept
+kept_at o m = record { opened = shown (undone (drop m.steps o.steps.items) o.slots); found = m.found }
 
 abbrev pub seen_of : Inside → Seen
-seen_of m = record { current = kept_of m.noted; marks = map kept_of m.marks.items }
+seen_of m = record { current = record { opened = shown m.opens.slots; found = m.found }; marks = map (kept_at m.opens) m.marks.items }
+
+-- the steps that are noted reach back to each open mark
+abbrev pub IsMarked : Inside → Type 0
+IsMarked m = Rising 0 m.marks.items (length m.opens.steps.items)
 
 abbrev pub opening_of : OpenSlot → Opening
 opening_of o = opening (numbered o.slot) (path_in o.by)

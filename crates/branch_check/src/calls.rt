@@ -4,8 +4,10 @@ ghost use Rattle.turk_base.specs.Names.{path_in};
 ghost use Rattle.turk_base.specs.State.{independent, first_reason};
 ghost use Rattle.branch_check.specs.Watch.{Kept, numbered, verdict_of, watch_of, after_touch, after_once, after_write, after_join, after_throw};
 
-use crate::opens::{copy_noted, first, is_met, join, open_outside};
-use crate::{Found, Monitor, MonitorMark, Noted, Slot};
+use crate::opens::{copy_found, first, is_met, join, open_outside};
+use crate::steps::undo_from;
+use crate::{Found, Monitor, MonitorMark, OpenSlots, Saved, Slot};
+use object_props::Props;
 use std::alloc::Global;
 use turk_base::{NoMemory, Path};
 
@@ -18,10 +20,11 @@ impl Monitor {
     {
         Monitor {
             alloc,
-            noted: Noted {
-                opened: Vec::new(alloc),
-                found: Found::Independent,
+            opens: OpenSlots {
+                slots: Props::new(alloc),
+                steps: Vec::new(alloc),
             },
+            found: Found::Independent,
             marks: Vec::new(alloc),
         }
     }
@@ -32,8 +35,8 @@ impl Monitor {
         ensures now { watch_of self.new.current ≡ after_touch (path_in by.now) (numbered slot) (watch_of self.old.current) }
         ensures marks { self.new.marks ≡ self.old.marks }
     {
-        if is_met(by, slot, self.noted.opened.as_slice()) {
-            note(&mut self.noted.found, Found::TouchedOpen(slot));
+        if is_met(by, slot, &self.opens.slots) {
+            note(&mut self.found, Found::TouchedOpen(slot));
         }
     }
 
@@ -43,9 +46,9 @@ impl Monitor {
         ensures now { watch_of self.new.current ≡ after_once (path_in by.now) (watch_of self.old.current) }
         ensures marks { self.new.marks ≡ self.old.marks }
     {
-        match first(by, self.noted.opened.as_slice()) {
+        match first(by, &self.opens.slots) {
             None => {}
-            Some(slot) => note(&mut self.noted.found, Found::OnceWhileOpen(slot)),
+            Some(slot) => note(&mut self.found, Found::OnceWhileOpen(slot)),
         }
     }
 
@@ -56,10 +59,11 @@ impl Monitor {
         ensures err { OnErr result (self.new.current ≡ self.old.current) }
         ensures marks { self.new.marks ≡ self.old.marks }
     {
-        let met = is_met(by, slot, self.noted.opened.as_slice());
-        open_outside(self.alloc, &mut self.noted.opened, slot, by, maker)?;
+        let met = is_met(by, slot, &self.opens.slots);
+        let noted = !self.marks.is_empty();
+        open_outside(self.alloc, noted, &mut self.opens, slot, by, maker)?;
         if met {
-            note(&mut self.noted.found, Found::TouchedOpen(slot));
+            note(&mut self.found, Found::TouchedOpen(slot));
         }
         Ok(())
     }
@@ -71,9 +75,8 @@ impl Monitor {
         ensures err { OnErr result (self.new.current ≡ self.old.current) }
         ensures marks { self.new.marks ≡ self.old.marks }
     {
-        let left = join(self.alloc, scope, self.noted.opened.as_slice())?;
-        self.noted.opened = left;
-        Ok(())
+        let noted = !self.marks.is_empty();
+        join(self.alloc, noted, &mut self.opens, scope)
     }
 
     /// The branch ended by a throw, which is a reason; the first reason stays. After a refusal
@@ -84,7 +87,7 @@ impl Monitor {
         ensures marks { self.new.marks ≡ self.old.marks }
     {
         let path = branch.copy(self.alloc)?;
-        note(&mut self.noted.found, Found::BranchThrew(path));
+        note(&mut self.found, Found::BranchThrew(path));
         Ok(())
     }
 
@@ -96,8 +99,11 @@ impl Monitor {
         ensures err { OnErr result (self.new.marks ≡ self.old.marks) }
         ensures now { self.new.current ≡ self.old.current }
     {
-        let copy = copy_noted(self.alloc, &self.noted)?;
-        match self.marks.push(copy) {
+        let saved = Saved {
+            steps: self.opens.steps.len(),
+            found: copy_found(self.alloc, &self.found)?,
+        };
+        match self.marks.push(saved) {
             Ok(()) => Ok(MonitorMark {
                 open: self.marks.len(),
             }),
@@ -113,7 +119,10 @@ impl Monitor {
         ensures { self.old.marks ≡ self.new.marks ++ self.new.current ∷ [] }
     {
         match self.marks.pop() {
-            Some(saved) => self.noted = saved,
+            Some(saved) => {
+                undo_from(saved.steps, &mut self.opens);
+                self.found = saved.found;
+            }
             None => {}
         }
     }
@@ -127,13 +136,16 @@ impl Monitor {
         ensures closed { (saved : Kept) × (self.old.marks ≡ self.new.marks ++ saved ∷ []) }
     {
         let _ = self.marks.pop();
+        if self.marks.is_empty() {
+            self.opens.steps.clear();
+        }
     }
 
     /// What was found until now.
     pub fn verdict(&self) -> &Found
         ensures { result.now ≡ self.now.current.found }
     {
-        &self.noted.found
+        &self.found
     }
 }
 

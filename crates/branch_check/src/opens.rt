@@ -1,135 +1,198 @@
 //! Open slots as they are kept.
-ghost use Rattle.std.specs.Prelude.{◌≡◌, [], ◌∷◌, ◌++◌, ◌<◌, length, Some, None, IfOk, OnErr, if◌then◌else◌};
+ghost use Rattle.std.specs.Prelude.{◌≡◌, [], ◌++◌, ◌<◌, length, None, Some, IsTrue, IfOk, OnOk, OnErr, if◌then◌else◌, ◌∷◌};
+ghost use Rattle.std.specs.Vec.{vec_len, vec_capacity};
 ghost use Rattle.std.specs.List.{flat_map};
+ghost use Rattle.std.specs.Map.{lookup};
 ghost use Rattle.turk_base.specs.Trace.{begins};
-ghost use Rattle.branch_check.specs.Numbers.{same_slot, met, first_met, open_slot, Places, joined_one, kept_by, opened as opened_by};
+ghost use Rattle.branch_check.specs.Numbers.{same_slot, met, first_met, joined_one, joined_at, opened as opened_by};
+ghost use Rattle.branch_check.specs.Steps.{Leads};
 
-use crate::{Found, Noted, OpenSlot, Slot};
+use crate::steps::{make_room, note_step, undo_from};
+use crate::{Found, OpenSlot, OpenSlots, Slot, Step};
+use object_props::Props;
 use std::alloc::Global;
+use std::mem;
 use turk_base::{NoMemory, Path};
 
-fn is_same(a: Slot, b: Slot) -> bool
-    ensures { result ≡ same_slot a b }
-{
-    a.cell == b.cell && a.key == b.key
-}
-
 /// Whether the slot is open by a path that is no prefix of the branch.
-pub fn is_met(by: &Path, slot: Slot, opened: &[OpenSlot]) -> bool
-    ensures { result ≡ met by.now slot opened.now }
+pub fn is_met(by: &Path, slot: Slot, slots: &Props<Slot, Path>) -> bool
+    ensures { result ≡ met by.now slot slots.now }
 {
-    for open in opened {
-        if is_same(open.slot, slot) && !open.by.begins(by) {
-            return true;
-        }
+    if slots.len() == 0 {
+        return false;
     }
-    false
+    match slots.get(&slot) {
+        Some(path) => !path.begins(by),
+        None => false,
+    }
 }
 
 /// The first slot that is open by a path that is no prefix of the branch.
-pub fn first(by: &Path, opened: &[OpenSlot]) -> Option<Slot>
-    ensures { result ≡ first_met by.now opened.now }
+pub fn first(by: &Path, slots: &Props<Slot, Path>) -> Option<Slot>
+    ensures { result ≡ first_met by.now slots.now }
 {
-    for open in opened {
-        if !open.by.begins(by) {
-            return Some(open.slot);
+    for place in 0..slots.len() {
+        let Some((slot, path)) = slots.pair_at(place) else {
+            unreachable!()
+        };
+        if !path.begins(by) {
+            return Some(*slot);
         }
     }
     None
 }
 
-// the place where the slot is open
-fn place_of(opened: &[OpenSlot], slot: Slot) -> Option<usize>
-    ensures { Places slot opened.now result }
+// whether the slot is open by this path
+fn is_open_by(by: &Path, slot: Slot, slots: &Props<Slot, Path>) -> bool
+    ensures { IsTrue result → lookup (same_slot slot) slots.now ≡ Some by.now }
 {
-    for place in 0..opened.len() {
-        if is_same(opened[place].slot, slot) {
-            return Some(place);
-        }
-    }
-    None
+    slots.get(&slot) == Some(by)
 }
 
-/// Marks the slot open by the path, if the cell's scope doesn't begin with it. After a refusal nothing changed.
+/// Opens the slot by the path, if the cell's scope doesn't begin with it. A slot that is open by
+/// that path already takes no step and no memory. After a refusal nothing changed.
 pub fn open_outside(
     alloc: Global,
-    opened: &mut Vec<OpenSlot>,
+    noted: bool,
+    opens: &mut OpenSlots,
     slot: Slot,
     by: &Path,
     maker: &Path,
 ) -> Result<(), NoMemory>
-    ensures ok { IfOk result (λ _. opened.new.items ≡ (if begins by.now maker.now then opened.old.items else opened_by slot by.now opened.old.items)) }
-    ensures err { OnErr result (opened.new.items ≡ opened.old.items) }
+    ensures ok { OnOk result (opens.new.slots ≡ (if begins by.now maker.now then opens.old.slots else opened_by slot by.now opens.old.slots)) }
+    ensures err { OnErr result (opens.new.slots ≡ opens.old.slots) }
+    ensures back { IsTrue noted → Leads opens.old opens.new }
 {
     if by.begins(maker) {
         return Ok(());
     }
-    let path = by.copy(alloc)?;
-    open(opened, slot, path)
-}
-
-fn open(opened: &mut Vec<OpenSlot>, slot: Slot, by: Path) -> Result<(), NoMemory>
-    ensures ok { IfOk result (λ _. opened.new.items ≡ opened_by slot by opened.old.items) }
-    ensures err { OnErr result (opened.new.items ≡ opened.old.items) }
-{
-    match place_of(opened.as_slice(), slot) {
-        None => add(opened, slot, by),
-        Some(place) => {
-            opened[place] = OpenSlot { slot, by };
-            Ok(())
-        }
-    }
-}
-
-/// The open slots after branches joined in the scope.
-pub fn join(alloc: Global, scope: &Path, opened: &[OpenSlot]) -> Result<Vec<OpenSlot>, NoMemory>
-    ensures { IfOk result (λ left. left.items ≡ flat_map (joined_one scope.now) opened.now) }
-{
-    let mut left = Vec::new(alloc);
-    for open in opened {
-        join_one(alloc, scope, open, &mut left)?;
-    }
-    Ok(left)
-}
-
-fn join_one(
-    alloc: Global,
-    scope: &Path,
-    one: &OpenSlot,
-    left: &mut Vec<OpenSlot>,
-) -> Result<(), NoMemory>
-    ensures { IfOk result (λ _. left.new.items ≡ left.old.items ++ joined_one scope.now one.now) }
-{
-    if !scope.begins(&one.by) {
-        return add(left, one.slot, one.by.copy(alloc)?);
-    }
-    if scope.len() == 0 {
+    if is_open_by(by, slot, &opens.slots) {
         return Ok(());
     }
-    add(left, one.slot, scope.copy(alloc)?)
+    let path = by.copy(alloc)?;
+    make_room(noted, &mut opens.steps)?;
+    open(noted, opens, slot, path)
 }
 
-fn add(left: &mut Vec<OpenSlot>, slot: Slot, by: Path) -> Result<(), NoMemory>
-    ensures ok { IfOk result (λ _. left.new.items ≡ left.old.items ++ open_slot slot by ∷ []) }
-    ensures err { OnErr result (left.new.items ≡ left.old.items) }
+// opens the slot by the path, in its place or last
+fn open(noted: bool, opens: &mut OpenSlots, slot: Slot, by: Path) -> Result<(), NoMemory>
+    requires { IsTrue noted → vec_len opens.old.steps < vec_capacity opens.old.steps }
+    ensures ok { OnOk result (opens.new.slots ≡ opened_by slot by opens.old.slots) }
+    ensures err { OnErr result (opens.new.slots ≡ opens.old.slots) }
+    ensures back { IsTrue noted → Leads opens.old opens.new }
 {
-    match left.push(OpenSlot { slot, by }) {
+    if opens.slots.get(&slot).is_none() {
+        return add(noted, opens, slot, by);
+    }
+    if let Some(by) = opens.slots.set(&slot, by) {
+        note_step(
+            noted,
+            &mut opens.steps,
+            Step::Replaced(OpenSlot { slot, by }),
+        );
+    }
+    Ok(())
+}
+
+fn add(noted: bool, opens: &mut OpenSlots, slot: Slot, by: Path) -> Result<(), NoMemory>
+    requires closed { lookup (same_slot slot) opens.old.slots ≡ None }
+    requires room { IsTrue noted → vec_len opens.old.steps < vec_capacity opens.old.steps }
+    ensures ok { OnOk result (opens.new.slots ≡ opens.old.slots ++ (slot, by) ∷ []) }
+    ensures err { OnErr result (opens.new.slots ≡ opens.old.slots) }
+    ensures back { IsTrue noted → Leads opens.old opens.new }
+{
+    add_last(&mut opens.slots, slot, by)?;
+    note_step(noted, &mut opens.steps, Step::Added(slot));
+    Ok(())
+}
+
+/// Branches join in the scope. After a refusal nothing changed.
+pub fn join(alloc: Global, noted: bool, opens: &mut OpenSlots, scope: &Path) -> Result<(), NoMemory>
+    ensures ok { OnOk result (opens.new.slots ≡ flat_map (joined_one scope.now) opens.old.slots) }
+    ensures err { OnErr result (opens.new.slots ≡ opens.old.slots) }
+    ensures back { IsTrue noted → Leads opens.old opens.new }
+{
+    if scope.len() == 0 {
+        return close_all(alloc, noted, opens);
+    }
+    let place = opens.steps.len();
+    if let Err(refused) = shorten(alloc, opens, scope) {
+        undo_from(place, opens);
+        return Err(refused);
+    }
+    if !noted {
+        opens.steps.truncate(place);
+    }
+    Ok(())
+}
+
+// closes each slot
+fn close_all(alloc: Global, noted: bool, opens: &mut OpenSlots) -> Result<(), NoMemory>
+    ensures ok { OnOk result (opens.new.slots ≡ []) }
+    ensures err { OnErr result (opens.new.slots ≡ opens.old.slots) }
+    ensures back { IsTrue noted → Leads opens.old opens.new }
+{
+    if opens.slots.len() == 0 {
+        return Ok(());
+    }
+    make_room(noted, &mut opens.steps)?;
+    let before = mem::replace(&mut opens.slots, Props::new(alloc));
+    note_step(noted, &mut opens.steps, Step::Closed(before));
+    Ok(())
+}
+
+// each path that begins with the scope becomes the scope's, by steps that are noted
+fn shorten(alloc: Global, opens: &mut OpenSlots, scope: &Path) -> Result<(), NoMemory>
+    requires { 0 < length scope.now }
+    ensures ok { OnOk result (opens.new.slots ≡ flat_map (joined_one scope.now) opens.old.slots) }
+    ensures back { Leads opens.old opens.new }
+{
+    for place in 0..opens.slots.len() {
+        shorten_at(alloc, place, opens, scope)?;
+    }
+    Ok(())
+}
+
+fn shorten_at(
+    alloc: Global,
+    place: usize,
+    opens: &mut OpenSlots,
+    scope: &Path,
+) -> Result<(), NoMemory>
+    requires within { place < length opens.old.slots }
+    requires scope { 0 < length scope.now }
+    ensures ok { OnOk result (opens.new.slots ≡ joined_at scope.now place opens.old.slots) }
+    ensures back { Leads opens.old opens.new }
+{
+    let Some((slot, by)) = opens.slots.pair_at(place) else {
+        unreachable!()
+    };
+    if !scope.begins(by) {
+        return Ok(());
+    }
+    if scope == by {
+        return Ok(());
+    }
+    let slot = *slot;
+    let path = scope.copy(alloc)?;
+    make_room(true, &mut opens.steps)?;
+    open(true, opens, slot, path)
+}
+
+fn add_last(slots: &mut Props<Slot, Path>, slot: Slot, by: Path) -> Result<(), NoMemory>
+    requires { lookup (same_slot slot) slots.old ≡ None }
+    ensures ok { OnOk result (slots.new ≡ slots.old ++ (slot, by) ∷ []) }
+    ensures err { OnErr result (slots.new ≡ slots.old) }
+{
+    let place = slots.len();
+    match slots.insert_at(place, slot, by) {
         Ok(()) => Ok(()),
         Err(_) => Err(NoMemory),
     }
 }
 
-fn copy_opened(alloc: Global, opened: &[OpenSlot]) -> Result<Vec<OpenSlot>, NoMemory>
-    ensures { IfOk result (λ copies. copies.items ≡ opened.now) }
-{
-    let mut copies = Vec::new(alloc);
-    for open in opened {
-        add(&mut copies, open.slot, open.by.copy(alloc)?)?;
-    }
-    Ok(copies)
-}
-
-fn copy_found(alloc: Global, found: &Found) -> Result<Found, NoMemory>
+/// An equal reason.
+pub fn copy_found(alloc: Global, found: &Found) -> Result<Found, NoMemory>
     ensures { IfOk result (λ copy. copy ≡ found.now) }
 {
     Ok(match found {
@@ -137,16 +200,5 @@ fn copy_found(alloc: Global, found: &Found) -> Result<Found, NoMemory>
         Found::TouchedOpen(slot) => Found::TouchedOpen(*slot),
         Found::OnceWhileOpen(slot) => Found::OnceWhileOpen(*slot),
         Found::BranchThrew(path) => Found::BranchThrew(path.copy(alloc)?),
-    })
-}
-
-/// Equal notes.
-pub fn copy_noted(alloc: Global, noted: &Noted) -> Result<Noted, NoMemory>
-    ensures opened { IfOk result (λ copy. copy.opened.items ≡ noted.now.opened.items) }
-    ensures found { IfOk result (λ copy. copy.found ≡ noted.now.found) }
-{
-    Ok(Noted {
-        opened: copy_opened(alloc, noted.opened.as_slice())?,
-        found: copy_found(alloc, &noted.found)?,
     })
 }

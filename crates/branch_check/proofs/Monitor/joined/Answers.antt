@@ -1,11 +1,18 @@
-use Rattle.std.proofs.Common.{◌≡◌, ap, ◌∙◌}
-use Rattle.std.specs.List.{flat_map}
-use Rattle.branch_check.specs.Watch.{kept_of}
-use Rattle.branch_check.specs.Numbers.{joined_one}
+use Rattle.std.proofs.Common.{ap, ◌∙◌, not}
+use Rattle.std.specs.Prelude.{◌==◌}
+use Rattle.branch_check.proofs.Marks.{noted_marks, noted_rising, on_ok}
 use Rattle.branch_check.proofs.Rules.{after_join_is}
 use Rattle.branch_check.proofs.Monitor.joined.Goals as goal
 
+pub invariant_of-self : goal.invariant_of-self
+invariant_of-self c =
+    noted_rising c.self.inside.opens c.join.new.opens (not c.is_empty-noted.result) c.join.ensures.back c.self.inside.marks.items (ap not c.is_empty-noted.ensures ∙ ap (λ n. not (n == 0)) c.self.inside.marks.ok.0) c.self.invariant
+
+pub returns-clause-marks : goal.returns-clause-marks
+returns-clause-marks c =
+    noted_marks c.self.inside.opens c.join.new.opens (not c.is_empty-noted.result) c.join.ensures.back c.self.inside.marks.items (ap not c.is_empty-noted.ensures ∙ ap (λ n. not (n == 0)) c.self.inside.marks.ok.0) c.self.invariant
+    ∙ ap (λ s. s.marks) c.self.view_is
+
 pub returns-clause-ok : goal.returns-clause-ok
 returns-clause-ok c =
-    let o : c.in_ok-left.left.items ≡ flat_map (joined_one c.args.scope.now) c.self.inside.noted.opened.items = c.in_ok-left.ensures ∙ ap (flat_map (joined_one c.args.scope.now)) c.as_slice.ensures.value in
-    after_join_is c.args.scope.now (kept_of c.self.inside.noted) c.args.self.now.current c.in_ok-left.left.items (ap (λ s. s.current) c.self.view_is) o
+    on_ok c.join.result (after_join_is c.self.inside.opens.slots c.self.inside.found c.args.self.now.current (ap (λ s. s.current) c.self.view_is) c.args.scope.now c.join.new.opens.slots) c.join.ensures.ok
